@@ -1,0 +1,9 @@
+pub mod Tests
+pub mod Member
+pub mod Over
+pub mod Entries
+pub mod Within
+pub mod Size
+pub mod ConverseLaws
+pub mod CompositionLaws
+pub mod Unique

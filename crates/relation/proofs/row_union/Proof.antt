@@ -1,0 +1,71 @@
+-- `relation::row_union` meets its contract. The loop's invariant: union is the union over the members of set below q. Assumes nothing.
+use Prim.Native.Nat.{ℕ, _+_, _≤_, _-_}
+use mathlib.Core.Path.{_≡_, sym, _∙_}
+use mathlib.Core.List.{List}
+use mathlib.Core.Logic.{⊎-elim}
+use native.Mathlib.Omega.{arith}
+use lib.ListN.{getD}
+use borrow.Author.Needs.{needs}
+use Rattle.relation.proofs.Over.{upto, upto-none, upto-taken, upto-left, upto-all}
+use Rattle.relation.proofs.row_union.Statement.{statement}
+use Rattle.relation.proofs.row_union.Tie as tie
+
+-- the row of the entries that begins at from
+abbrev row : List ℕ → ℕ → ℕ → ℕ
+row entries from q = getD entries (from + q) 0
+
+abbrev Inv-loop : tie.InvT-loop
+Inv-loop entries from set union₀ q₀ union q = (q ≤ 8) × (union ≡ upto (set .0) (row entries from) q)
+
+abbrev μ-loop : tie.MeasureT-loop
+μ-loop entries from set union₀ q₀ union q = 8 - q
+
+loop-holds : tie.Need-loop-holds Inv-loop μ-loop
+loop-holds c = (search needs, upto-none (c .args .set .0) (row (c .args .entries .now) (c .args .from)))
+
+has-requires : tie.Need-has-requires Inv-loop μ-loop
+has-requires c κs = search needs
+
+add-union : tie.Need-add-union Inv-loop μ-loop
+add-union c = search needs
+
+element-copy-out-union : tie.Need-element-copy-out-union Inv-loop μ-loop
+element-copy-out-union c = search needs
+
+add-q : tie.Need-add-q Inv-loop μ-loop
+add-q c = search needs
+
+loop-less : tie.Need-loop-less Inv-loop μ-loop
+loop-less c = search needs
+
+loop-again : tie.Need-loop-again Inv-loop μ-loop
+loop-again c =
+    let at = c .before .before .before in
+    let s = at .before .args .set .0 in
+    let f = row (at .before .args .entries .now) (at .before .args .from) in (
+      search needs,
+      ⊎-elim (λ w. w .2 ∙ upto-taken s f (at .loop .q) (at .loop .union) (at .loop .inv .1) (sym (c .before .has .ensures) ∙ w .0 .taken))
+          (λ w. w .1 ∙ upto-left s f (at .loop .q) (at .loop .union) (at .loop .inv .1) (sym (c .before .has .ensures) ∙ w .0 .left))
+          (c .if1 .came),
+    )
+
+returns : tie.Need-returns Inv-loop μ-loop
+returns c =
+    let args = c .before .before .args in
+    c .before .loop .inv .1
+    ∙ upto-all (args .set .0) (row (args .entries .now) (args .from)) (c .before .loop .q) (omega arith)
+
+pub row-union-spec : {M : Type 1} → statement M
+row-union-spec =
+    tie.close
+    (tie.spec
+    Inv-loop
+    μ-loop
+    loop-holds
+    has-requires
+    add-union
+    element-copy-out-union
+    add-q
+    loop-less
+    loop-again
+    returns)

@@ -1,0 +1,91 @@
+#!/usr/bin/env python3
+"""table.py [TOP]: compares Table 1 of document 004, here in the document's letters, with the table of the
+definition and with the table of the code. TOP is the repository's top, by default the folder above this script's."""
+import os
+import re
+import sys
+
+# The columns in the order of the bits, from value 1 upward.
+ORDER = ["d", "m", "e", "i", "cB", "ct", "cv", "o"]
+
+# A row for each relation of A to B, in the order of the columns; U is the universal relation.
+TABLE = """
+d  | U               | d, m, i, cB, o     | d  | d, m, i, cB, o      | d, m, i, cB, o | d               | d                  | d, m, i, cB, o
+m  | d, m, ct, cv, o | d, m, e, cB, cv, o | m  | i, cB, o            | m, i, cB, o    | d               | d, m               | d, m, i, cB, o
+e  | d               | m                  | e  | i                   | cB             | ct              | cv                 | o
+i  | d               | d                  | i  | i                   | i              | U               | d, m, i, cB, o     | d, m, i, cB, o
+cB | d               | d, m               | cB | i                   | i, cB          | d, m, ct, cv, o | d, m, e, cB, cv, o | d, m, i, cB, o
+ct | d, m, ct, cv, o | ct, cv, o          | ct | e, i, cB, ct, cv, o | ct, cv, o      | ct              | ct                 | ct, cv, o
+cv | d, m, ct, cv, o | m, ct, cv, o       | cv | i, cB, o            | e, cB, cv, o   | ct              | ct, cv             | ct, cv, o
+o  | d, m, ct, cv, o | d, m, ct, cv, o    | o  | i, cB, o            | i, cB, o       | d, m, ct, cv, o | d, m, ct, cv, o    | U
+"""
+
+
+def byte_of(entry):
+    """The set of an entry's letters as a byte: a bit for each relation."""
+    if entry == "U":
+        return 255
+    letters = [letter.strip() for letter in entry.split(",")]
+    if len(set(letters)) != len(letters):
+        raise ValueError("a letter stands twice in: " + entry)
+    return sum(1 << ORDER.index(letter) for letter in letters)
+
+
+def document_rows():
+    """Table 1 as rows of bytes."""
+    rows = []
+    for place, line in enumerate(TABLE.strip().split("\n")):
+        name, *entries = [field.strip() for field in line.split("|")]
+        if name != ORDER[place] or len(entries) != 8:
+            raise ValueError("no row of eight entries for " + ORDER[place] + ": " + line)
+        rows.append([byte_of(entry) for entry in entries])
+    return rows
+
+
+def rows_after(path, start, end, row):
+    """The rows of numbers that stand between two marks of a file, each found by a pattern."""
+    with open(path, encoding="utf-8") as source:
+        text = source.read()
+    if text.count(start) != 1:
+        raise ValueError(path + ": not exactly one place with: " + start.strip())
+    begin = text.index(start) + len(start)
+    part = text[begin : text.index(end, begin)]
+    return [[int(number) for number in re.findall(r"\d+", found)] for found in re.findall(row, part)]
+
+
+def differences(name, rows, wanted):
+    """A line for each entry in which a table differs from Table 1."""
+    if [len(row) for row in rows] != [8] * 8:
+        return [name + ": not eight rows of eight entries, but " + str([len(row) for row in rows])]
+    return [
+        f"{name}: {ORDER[p]} composed with {ORDER[q]} is {rows[p][q]}, in Table 1 {wanted[p][q]}"
+        for p in range(8)
+        for q in range(8)
+        if rows[p][q] != wanted[p][q]
+    ]
+
+
+def main():
+    here = os.path.dirname(os.path.abspath(__file__))
+    top = sys.argv[1] if len(sys.argv) > 1 else os.path.dirname(here)
+    crate = os.path.join(top, "crates", "relation")
+    wanted = document_rows()
+    tables = {
+        "specs/Composition.antt": ("\nrows =\n", "\n\n", r"\(([^()]*)\)"),
+        "src/lib.rt": ("const COMPOSITION: [[u8; 8]; 8] = [\n", "\n];", r"\[([^\[\]]*)\]"),
+    }
+    found = []
+    for name, marks in tables.items():
+        try:
+            found += differences(name, rows_after(os.path.join(crate, name), *marks), wanted)
+        except (OSError, ValueError) as wrong:
+            found.append(name + ": " + str(wrong))
+    for line in found:
+        print(line)
+    if found:
+        sys.exit(1)
+    print("table: 64 entries agree")
+
+
+if __name__ == "__main__":
+    main()
