@@ -1,0 +1,4 @@
+pub mod Splits
+pub mod LeastLaws
+pub mod LookupLaws
+pub mod Unique
