@@ -1,0 +1,2 @@
+pub mod BytesLaws
+pub mod Unique
