@@ -1,0 +1,3 @@
+pub mod CellLaws
+pub mod LaidLaws
+pub mod Sums
