@@ -1,0 +1,11 @@
+pub mod Stages
+pub mod Slack
+pub mod Stops
+pub mod Loop
+pub mod RanOut
+pub mod Ending
+pub mod Limits
+pub mod Demand
+pub mod Consequences
+pub mod Renumber
+pub mod Cases

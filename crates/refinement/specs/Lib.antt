@@ -1,0 +1,6 @@
+pub mod Outcome
+pub mod Node
+pub mod Arc
+pub mod Round
+pub mod Refine
+pub mod Network
