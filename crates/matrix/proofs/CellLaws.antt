@@ -1,9 +1,9 @@
 -- The cells of a matrix by place and by row and column, matrices that are equal by their cells, and what the searches for the
 -- first empty and the first changed cell say. Assumes nothing.
 use mathlib.Core.Path.{_≡_, refl, sym, ap, _∙_, subst}
-use mathlib.Core.Bool.{Bool, true, false, not, true≢false}
-use mathlib.Core.List.{List, [], _∷_}
-use Prim.Native.Nat.{ℕ, zero, suc, _+_, _*_, _/_, _%_, _≤_, _<_}
+use mathlib.Core.Bool.{Bool, not, true≢false}
+use mathlib.Core.List.{List}
+use Prim.Native.Nat.{ℕ, zero, suc, _+_, _*_, _≤_, _<_}
 use native.Mathlib.Nat.{le-trans, le-of-suc-le-suc, not-suc-le-zero, zero-add, add-zero, div-lt-iff-lt-mul, mod-lt, div-add-mod', mul-add-div-right, div-eq-of-lt, mul-add-mod-self-right, mod-eq-of-lt, mul-le-mul-right}
 use native.Mathlib.Omega.{arith}
 use lib.Dec.{eqb}
@@ -93,7 +93,8 @@ grid-same n f g h =
 -- ---- the first empty cell
 
 -- it is empty
-pub empty-at : (n : ℕ) (m : List ℕ) → firstEmpty n m < n * n → cell n m (row n (firstEmpty n m)) (column n (firstEmpty n m)) ≡ 0
+pub empty-at : (n : ℕ) (m : List ℕ) → firstEmpty n m < n * n
+    → cell n m (row n (firstEmpty n m)) (column n (firstEmpty n m)) ≡ 0
 unfolding firstEmpty
 empty-at n m h =
     let test : ℕ → Bool = λ p. eqb (getD m p 0) 0 in
@@ -149,7 +150,8 @@ some-change n a b h =
     }
 
 -- where every cell is the same there is none
-pub none-changed : (n : ℕ) (a b : List ℕ) → ((i j : ℕ) → i < n → j < n → cell n a i j ≡ cell n b i j) → n * n ≤ firstChange n a b
+pub none-changed : (n : ℕ) (a b : List ℕ) → ((i j : ℕ) → i < n → j < n → cell n a i j ≡ cell n b i j)
+    → n * n ≤ firstChange n a b
 none-changed n a b h =
     split-lt (firstChange n a b) (n * n)
     (λ l. let z = some-change n a b l in absurd (z .differs (h (z .first) (z .second) (z .first-lt) (z .second-lt))))

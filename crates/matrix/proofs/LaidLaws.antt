@@ -31,7 +31,8 @@ laid-more p filled area hf ha = rw (add-one p) (go p filled area hf ha)
     go (suc p) (x ∷ xs) (y ∷ ys) ha hb =
         ap (λ (r : List ℕ). x ∷ r) (go p xs ys (le-of-suc-le-suc ha) (le-of-suc-le-suc hb))
 
-pub length-laid : (p : ℕ) (filled area : List ℕ) → p ≤ length filled → p ≤ length area → length (laid p filled area) ≡ length area
+pub length-laid : (p : ℕ) (filled area : List ℕ) → p ≤ length filled → p ≤ length area
+    → length (laid p filled area) ≡ length area
 unfolding laid
 length-laid p filled area hf ha =
     omega (arith, length-append (take p filled) (drop p area), length-take p filled, length-drop p area)
@@ -43,7 +44,8 @@ laid-all p filled area hf ha =
     rw (take-all p filled (omega arith), drop-of-length-le area {i = p} (omega arith), append-nil filled)
 
 -- a part in front that was lent and filled, with the rest as it was
-pub laid-front : (p : ℕ) (front filled area : List ℕ) → length front ≡ p → front ≡ filled → front ++ drop p area ≡ laid p filled area
+pub laid-front : (p : ℕ) (front filled area : List ℕ) → length front ≡ p → front ≡ filled
+    → front ++ drop p area ≡ laid p filled area
 unfolding laid
 laid-front p front filled area l e =
     rw (← e) (ap (λ (v : List ℕ). v ++ drop p area) (sym (take-all p front (omega arith))))
@@ -59,23 +61,28 @@ unfolding laid
 drop-laid p filled area h = drop-at (take p filled) (drop p area) p (length-take-le p filled h)
 
 -- laid over what was laid before, the last counts
-pub laid-again : (p : ℕ) (filled before area : List ℕ) → p ≤ length before → laid p filled (laid p before area) ≡ laid p filled area
+pub laid-again : (p : ℕ) (filled before area : List ℕ) → p ≤ length before
+    → laid p filled (laid p before area) ≡ laid p filled area
 unfolding laid
 laid-again p filled before area h =
     ap (λ (r : List ℕ). take p filled ++ r) (drop-at (take p before) (drop p area) p (length-take-le p before h))
 
-pub getD-laid-in : (p : ℕ) (filled area : List ℕ) (q : ℕ) → q < p → p ≤ length filled → getD (laid p filled area) q 0 ≡ getD filled q 0
+pub getD-laid-in : (p : ℕ) (filled area : List ℕ) (q : ℕ) → q < p → p ≤ length filled
+    → getD (laid p filled area) q 0 ≡ getD filled q 0
 unfolding laid
 getD-laid-in p filled area q h l =
     List·getD-append (take p filled) (drop p area) 0 q (omega (arith, length-take p filled)) ∙ getD-take p filled q 0 h
 
-pub getD-laid-past : (p : ℕ) (filled area : List ℕ) (q : ℕ) → p ≤ q → p ≤ length filled → getD (laid p filled area) q 0 ≡ getD area q 0
+pub getD-laid-past : (p : ℕ) (filled area : List ℕ) (q : ℕ) → p ≤ q → p ≤ length filled
+    → getD (laid p filled area) q 0 ≡ getD area q 0
 unfolding laid
 getD-laid-past p filled area q h l =
     let t : length (take p filled) ≡ p = length-take-le p filled l in
     let e : length (take p filled) + (q - p) ≡ q = omega arith in
     subst (λ (x : ℕ). getD (take p filled ++ drop p area) x 0 ≡ getD area q 0) e
-    (getD-append-add (take p filled) (drop p area) (q - p) 0 ∙ getD-drop p area (q - p) 0 ∙ ap (λ (x : ℕ). getD area x 0) (omega arith))
+    (getD-append-add (take p filled) (drop p area) (q - p) 0
+    ∙ getD-drop p area (q - p) 0
+    ∙ ap (λ (x : ℕ). getD area x 0) (omega arith))
 
 -- ---- areas that are filled with a matrix, or with one and the same entry
 

@@ -1,5 +1,5 @@
 -- Sums f 0 + .. + f (n - 1) and their order. Assumes nothing.
-use mathlib.Core.Path.{_≡_, refl, subst}
+use mathlib.Core.Path.{_≡_, subst}
 use Prim.Native.Nat.{ℕ, zero, suc, _+_, _*_, _≤_, _<_}
 use native.Mathlib.Omega.{arith}
 use Rattle.region.proofs.Splits.{split-lt}
@@ -14,7 +14,8 @@ sum-le zero f g h = omega arith
 sum-le (suc n) f g h = omega (arith, h n (omega arith), sum-le n f g (λ i l. h i (omega arith)))
 
 -- one smaller term makes the sum smaller
-pub sum-lt : (n : ℕ) (f g : ℕ → ℕ) → ((i : ℕ) → i < n → f i ≤ g i) → (j : ℕ) → j < n → f j < g j → sumTo n f < sumTo n g
+pub sum-lt : (n : ℕ) (f g : ℕ → ℕ) → ((i : ℕ) → i < n → f i ≤ g i) → (j : ℕ) → j < n → f j < g j
+    → sumTo n f < sumTo n g
 unfolding sumTo
 sum-lt zero f g h j l s = absurd (omega arith)
 sum-lt (suc n) f g h j l s =

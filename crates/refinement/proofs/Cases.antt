@@ -78,13 +78,18 @@ cases =
     ∷ case 65 [] (refuses 1 0 0 0 0)
     ∷ []
 
+pub fourRegions : List Case
+fourRegions = case 4 (is 0 2 64 ∷ is 0 3 2 ∷ is 1 2 2 ∷ is 1 3 16 ∷ is 2 3 129 ∷ []) (refuses 23 2 1 3 1) ∷ []
+
+computed : T (all-right cases) × T (all-right fourRegions)
+unfolding cases fourRegions case all-right right fits holds state
+    refined refine rounds mostRounds node emptyRegion arc round through ranOut grid listFrom firstEmpty firstChange least leastFrom
+    converse flip compose table rows over unionOf has
+computed = (tt, tt)
+
+-- all twelve come out as the document says
 pub cases-right : T (all-right cases)
-unfolding all-right cases case right fits holds state refined refine rounds mostRounds node emptyRegion arc through round ranOut firstEmpty firstChange grid listFrom least leastFrom converse flip compose over unionOf has table rows
-cases-right = tt
+cases-right = computed .0
 
-pub four : List Case
-four = case 4 (is 0 2 64 ∷ is 0 3 2 ∷ is 1 2 2 ∷ is 1 3 16 ∷ is 2 3 129 ∷ []) (refuses 23 2 1 3 1) ∷ []
-
-pub four-right : T (all-right four)
-unfolding all-right four case right fits holds state refined refine rounds mostRounds node emptyRegion arc through round ranOut firstEmpty firstChange grid listFrom least leastFrom converse flip compose over unionOf has table rows
-four-right = tt
+pub four-regions-right : T (all-right fourRegions)
+four-regions-right = computed .1

@@ -1,28 +1,28 @@
 -- What follows from demand 3: an accepted network is below the stated sets and stays as it is, weaker statements give no
 -- smaller network, and where nothing is stated nothing is lost. Assumes nothing.
 use mathlib.Core.Path.{_≡_, refl, sym, ap, _∙_, subst}
-use mathlib.Core.Bool.{Bool, true, false, cond}
+use mathlib.Core.Bool.{Bool, cond}
 use mathlib.Core.List.{List}
 use Prim.Native.Nat.{ℕ, _+_, _*_, _≤_, _<_}
 use native.Mathlib.Omega.{arith}
 use borrow.Author.Tests.{eq-eqb, ne-eqb}
-use lib.Dec.{eqb, lit<}
+use lib.Dec.{eqb}
 use lib.ListN.{length, replicate, length-replicate, getD-replicate}
 use Rattle.region.proofs.Splits.{split-eq}
 use Rattle.relation.specs.Relations.{equal}
 use Rattle.relation.specs.Sets.{Within, has, only, empty, universal, intersect, over, unionOf}
 use Rattle.relation.specs.Converse.{converse}
 use Rattle.relation.specs.Composition.{rows, table, compose}
-use Rattle.relation.proofs.Within.{within-antisym, within-of-eq, byte-within-universal}
+use Rattle.relation.proofs.Within.{within-antisym}
 use Rattle.relation.proofs.ConverseLaws.{converse-equal, converse-universal}
-use Rattle.matrix.specs.Cells.{cell, grid, firstEmpty, firstChange}
+use Rattle.matrix.specs.Cells.{cell, grid, firstEmpty}
 use Rattle.matrix.proofs.CellLaws.{length-grid, place-lt, cell-grid, ext-cell, none-empty, none-changed}
-use Rattle.refinement.specs.Outcome.{Outcome, accepted}
-use Rattle.refinement.specs.Node.{nodeCell, node, emptyRegion}
+use Rattle.refinement.specs.Outcome.{accepted}
+use Rattle.refinement.specs.Node.{node, emptyRegion}
 use Rattle.refinement.specs.Arc.{arc}
 use Rattle.refinement.specs.Round.{round}
 use Rattle.refinement.specs.Refine.{mostRounds, refine, refined}
-use Rattle.refinement.specs.Network.{Below, Network, Largest}
+use Rattle.refinement.specs.Network.{Below, Network}
 use Rattle.refinement.proofs.Stages.{Bytes, below-refl, below-trans, network-plain, network-within, network-node, network-arc, network-round, length-node, length-arc, length-round, node-cell, node-below, arc-below, round-below, none-region-empty}
 use Rattle.refinement.proofs.Loop.{refine-rounds, round-rests}
 use Rattle.refinement.proofs.Limits.{InRange, refined-in-range}

@@ -1,4 +1,5 @@
--- Demand 3 about the whole call: it accepts exactly when there is a network, and what it accepts is the largest. Assumes nothing.
+-- Demand 3 about the whole call: it accepts exactly when there is a network, and what it accepts is the largest.
+-- Assumes nothing.
 use mathlib.Core.Path.{_≡_, refl, subst}
 use mathlib.Core.List.{List}
 use Prim.Native.Nat.{ℕ, _≤_}
@@ -8,7 +9,7 @@ use Rattle.refinement.specs.Outcome.{Outcome, accepted, refused}
 use Rattle.refinement.specs.Refine.{mostRounds, refined}
 use Rattle.refinement.specs.Network.{Network, Largest}
 use Rattle.refinement.proofs.Stages.{Bytes}
-use Rattle.refinement.proofs.Ending.{Accepts, Refuses, Names, Ends, refine-ends}
+use Rattle.refinement.proofs.Ending.{Names, Ends, refine-ends}
 use Rattle.refinement.proofs.Limits.{InRange, refined-in-range}
 
 -- the ending is an acceptance
@@ -64,5 +65,6 @@ module _ (n : ℕ) (m : List ℕ) (first second : ℕ) (range : InRange n m firs
       → (v : List ℕ) → Network n m v → ⊥
   refused-none number a b c count e = subst (Ends n m) e refined-ends .none
 
-  pub refused-names : (number a b c count : ℕ) → refined n m first second ≡ refused number a b c count → Names n number a b c count
+  pub refused-names : (number a b c count : ℕ) → refined n m first second ≡ refused number a b c count
+      → Names n number a b c count
   refused-names number a b c count e = subst (Ends n m) e refined-ends .names

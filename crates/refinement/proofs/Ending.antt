@@ -1,7 +1,6 @@
 -- What holds of every ending: an accepted network is the largest there is, a refusal means that there is none, and what is
 -- named and counted is as the document says. Assumes nothing.
 use mathlib.Core.Path.{_≡_, refl, sym, ap, _∙_, subst}
-use mathlib.Core.Bool.{Bool}
 use mathlib.Core.List.{List}
 use Prim.Native.Nat.{ℕ, zero, suc, _+_, _*_, _≤_, _<_}
 use native.Mathlib.Omega.{arith}
@@ -14,14 +13,14 @@ use Rattle.relation.specs.Sets.{only, empty}
 use Rattle.relation.specs.Converse.{converse}
 use Rattle.relation.proofs.ConverseLaws.{converse-empty}
 use Rattle.matrix.specs.Cells.{cell, row, column, firstEmpty, firstChange}
-use Rattle.matrix.proofs.CellLaws.{row-lt, column-lt, place-back, place-above, empty-at, empty-first, no-empty, no-change}
-use Rattle.refinement.specs.Outcome.{Outcome, accepted, refused, stop}
+use Rattle.matrix.proofs.CellLaws.{row-lt, column-lt, place-back, place-above, empty-at, empty-first, no-change}
+use Rattle.refinement.specs.Outcome.{Outcome, accepted, refused}
 use Rattle.refinement.specs.Node.{node, emptyRegion}
 use Rattle.refinement.specs.Arc.{arc}
-use Rattle.refinement.specs.Round.{round, ranOut}
+use Rattle.refinement.specs.Round.{round}
 use Rattle.refinement.specs.Refine.{mostRounds, rounds, allRounds, refine}
 use Rattle.refinement.specs.Network.{Below, Network, Largest}
-use Rattle.refinement.proofs.Stages.{Bytes, Filled, Plain, below-refl, below-trans, below-bytes, empty-shuts, length-arc, length-round, round-cell, node-below, arc-below, round-below, network-plain, network-node, network-arc, network-round, region-empty, node-done, arc-diagonal, arc-opposite, arc-done, round-plain, fixed-network}
+use Rattle.refinement.proofs.Stages.{Bytes, Plain, below-trans, below-bytes, empty-shuts, length-arc, length-round, round-cell, node-below, arc-below, round-below, network-plain, network-node, network-arc, network-round, region-empty, node-done, arc-diagonal, arc-opposite, arc-done, fixed-network}
 use Rattle.refinement.proofs.Slack.{slack, slack-most}
 use Rattle.refinement.proofs.Stops.{by-stop, stop-same}
 use Rattle.refinement.proofs.Loop.{round-goes}
@@ -89,7 +88,10 @@ rounds-end n m (suc more) count old l P B G f c =
     record {
       none = λ v N. empty-shuts n new i j hi hj (empty-at n new h) v (lower v N) (network-plain N .full);
       names = a-triple refl
-          (record { three = three-differ n old i j P hi hj (sym (round-cell n old i j hi hj) ∙ empty-at n new h); few = omega arith });
+          (record {
+            three = three-differ n old i j P hi hj (sym (round-cell n old i j hi hj) ∙ empty-at n new h);
+            few = omega arith;
+          });
     })
     (λ e. by-stop (Ends n m) (leb (n * n) q) _ _
     (λ u. record {
@@ -160,7 +162,8 @@ refine-ends n m A =
       none = λ v N. empty-shuts n b i j hi hj (empty-at n b h) v (lower v N) (network-plain N .full);
       names = a-pair refl
           (record {
-            order = arc-order n a (below-bytes n (node-below n m) A) (node-done n m (ltb-false r n e)) i j hi hj (empty-at n b h)
+            order = arc-order n a (below-bytes n (node-below n m) A) (node-done n m (ltb-false r n e)) i j hi hj
+                (empty-at n b h)
                 (λ l z. empty-first n b j i (omega (arith, place-back n p, place-above n j i i j l hi)) z);
             inside = hj;
             third = refl;

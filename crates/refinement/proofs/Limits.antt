@@ -5,6 +5,7 @@ use Prim.Native.Nat.{ℕ, _*_, _≤_, _<_}
 use native.Mathlib.Omega.{arith}
 use borrow.Author.Tests.{lt-ltb, le-ltb, eq-eqb, ne-eqb}
 use lib.ListN.{length}
+use Rattle.region.proofs.Splits.{split-lt, split-eq}
 use Rattle.refinement.specs.Outcome.{Outcome, refused}
 use Rattle.refinement.specs.Refine.{refine, refined}
 
@@ -16,7 +17,8 @@ pub record InRange (n : ℕ) (m : List ℕ) (first second : ℕ) : Type 0 where
   pub first-long : n * n ≤ first
   pub second-long : n * n ≤ second
 
-pub refined-in-range : {n : ℕ} {m : List ℕ} {first second : ℕ} → InRange n m first second → refined n m first second ≡ refine n m
+pub refined-in-range : {n : ℕ} {m : List ℕ} {first second : ℕ} → InRange n m first second
+    → refined n m first second ≡ refine n m
 unfolding refined
 refined-in-range {n} {m} {first} {second} r =
     rw (
@@ -50,3 +52,18 @@ module _ (n : ℕ) (m : List ℕ) (first second : ℕ) (some : 1 ≤ n) (few : n
   unfolding refined
   refined-short-second l u h =
       rw (le-ltb n 1 some, le-ltb 64 n few, eq-eqb (length m) (n * n) l, le-ltb first (n * n) u, lt-ltb second (n * n) h)
+
+-- the whole call, by what its checks find
+pub by-range : (P : Outcome → Type 0) (n : ℕ) (m : List ℕ) (first second : ℕ) → P (refused 1 0 0 0 0) → P (refused 2 0 0 0 0)
+    → (InRange n m first second → P (refine n m)) → P (refined n m first second)
+by-range P n m first second outside wrong inside =
+    split-lt n 1 (λ h. rw (refined-no-region n m first second h) outside)
+    (λ some. split-lt 64 n (λ h. rw (refined-too-many n m first second h) outside)
+    (λ few. split-eq (length m) (n * n)
+    (λ l. split-lt first (n * n) (λ h. rw (refined-short-first n m first second some few l h) wrong)
+    (λ u. split-lt second (n * n) (λ h. rw (refined-short-second n m first second some few l u h) wrong)
+    (λ v.
+    let range : InRange n m first second =
+    record { some = some; few = few; cells = l; first-long = u; second-long = v } in
+    rw (refined-in-range range) (inside range))))
+    (λ d. rw (refined-wrong-cells n m first second some few d) wrong)))

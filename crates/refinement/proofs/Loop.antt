@@ -1,16 +1,15 @@
 -- What code that refines step by step needs: how it ends by what its searches find, before the rounds and after each, and
 -- where a loop over the rounds stands. Assumes nothing.
 use mathlib.Core.Path.{_≡_, ap, ap₂, _∙_}
-use mathlib.Core.Bool.{Bool, true, false}
 use mathlib.Core.List.{List}
-use Prim.Native.Nat.{ℕ, zero, suc, _+_, _-_, _*_, _≤_, _<_}
+use Prim.Native.Nat.{ℕ, suc, _+_, _-_, _*_, _≤_, _<_}
 use native.Mathlib.Omega.{arith}
 use borrow.Author.Tests.{lt-ltb, le-ltb, le-leb, lt-leb}
 use lib.Dec.{ltb, leb}
 use lib.ListN.{length}
 use Rattle.matrix.specs.Cells.{row, column, firstEmpty, firstChange}
 use Rattle.matrix.proofs.CellLaws.{ext-cell, no-empty, no-change, some-change}
-use Rattle.refinement.specs.Outcome.{Outcome, accepted, refused, stop}
+use Rattle.refinement.specs.Outcome.{accepted, refused}
 use Rattle.refinement.specs.Node.{node, emptyRegion}
 use Rattle.refinement.specs.Arc.{arc}
 use Rattle.refinement.specs.Round.{round, ranOut}

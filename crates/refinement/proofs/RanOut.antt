@@ -1,6 +1,6 @@
 -- Where a round empties a cell, the three regions that are named differ: the diagonal keeps equal, and a composition through
 -- either end gives the cell back. Assumes nothing.
-use mathlib.Core.Path.{_≡_, refl, sym, ap, _∙_, subst}
+use mathlib.Core.Path.{_≡_, sym, ap, _∙_, subst}
 use mathlib.Core.Bool.{true≢false}
 use mathlib.Core.List.{List}
 use Prim.Native.Nat.{ℕ, zero, suc, _≤_, _<_}

@@ -1,26 +1,26 @@
--- The order of the regions does not matter: renumbering them commutes with every stage, and refining ends in the same way, after
--- the same rounds, with the network renumbered. Assumes nothing.
+-- The order of the regions does not matter: renumbering them commutes with every stage, and refining ends in the same way,
+-- after the same rounds, with the network renumbered. Assumes nothing.
 use mathlib.Core.Path.{_≡_, refl, sym, ap, ap₂, _∙_, subst}
 use mathlib.Core.Bool.{Bool, true, false, true≢false}
 use mathlib.Core.List.{List}
-use Prim.Native.Nat.{ℕ, zero, suc, _+_, _*_, _≤_, _<_}
+use Prim.Native.Nat.{ℕ, zero, suc, _*_, _≤_, _<_}
 use native.Mathlib.Omega.{arith}
 use borrow.Author.Tests.{lt-ltb, le-ltb, le-leb, lt-leb}
 use lib.Dec.{ltb, leb}
 use lib.ListN.{length}
 use Rattle.region.proofs.Splits.{split-lt, split-eq}
 use Rattle.relation.specs.Relations.{equal}
-use Rattle.relation.specs.Sets.{Within, only, empty, intersect}
+use Rattle.relation.specs.Sets.{only, intersect}
 use Rattle.relation.specs.Converse.{converse}
 use Rattle.relation.specs.Composition.{compose}
 use Rattle.relation.proofs.Within.{within-antisym, within-of-eq, within-trans}
-use Rattle.matrix.specs.Cells.{cell, row, column, grid, firstEmpty, firstChange}
+use Rattle.matrix.specs.Cells.{cell, grid, firstEmpty, firstChange}
 use Rattle.matrix.proofs.CellLaws.{length-grid, cell-grid, ext-cell, no-empty, none-empty, no-change, none-changed}
 use Rattle.refinement.specs.Outcome.{Outcome, accepted, refused, stop}
-use Rattle.refinement.specs.Node.{nodeCell, node, emptyRegion}
+use Rattle.refinement.specs.Node.{node, emptyRegion}
 use Rattle.refinement.specs.Arc.{arc}
-use Rattle.refinement.specs.Round.{through, round, ranOut}
-use Rattle.refinement.specs.Refine.{mostRounds, rounds, refine}
+use Rattle.refinement.specs.Round.{through, round}
+use Rattle.refinement.specs.Refine.{mostRounds, rounds, allRounds, refine}
 use Rattle.refinement.proofs.Stages.{length-node, length-arc, length-round, node-self, node-other, arc-cell, round-cell, through-within, through-largest, through-universal, no-region-empty, none-region-empty}
 
 -- a permutation of the places below n, with its inverse
@@ -119,7 +119,8 @@ module _ (n : ℕ) (π : Renumbering n) where
       r : List ℕ
       r = renumbered n π m
 
-      path : (k : ℕ) → k < n → compose (cell n r i k) (cell n r k j) ≡ compose (cell n m (π .to i) (π .to k)) (cell n m (π .to k) (π .to j))
+      path : (k : ℕ) → k < n
+          → compose (cell n r i k) (cell n r k j) ≡ compose (cell n m (π .to i) (π .to k)) (cell n m (π .to k) (π .to j))
       path k hk = ap₂ compose (renumbered-cell m i k hi hk) (renumbered-cell m k j hk hj)
 
   pub renumber-round : (m : List ℕ) → round n (renumbered n π m) ≡ renumbered n π (round n m)
@@ -152,9 +153,11 @@ module _ (n : ℕ) (π : Renumbering n) where
       let r : List ℕ = renumbered n π m in
       same-ltb (firstEmpty n m) (firstEmpty n r) (n * n)
       (λ l. none-empty n r
-      (λ i j hi hj e. no-empty n m l (π .to i) (π .to j) (π .to-below i hi) (π .to-below j hj) (sym (renumbered-cell m i j hi hj) ∙ e)))
+      (λ i j hi hj e.
+      no-empty n m l (π .to i) (π .to j) (π .to-below i hi) (π .to-below j hj) (sym (renumbered-cell m i j hi hj) ∙ e)))
       (λ l. none-empty n m
-      (λ i j hi hj e. no-empty n r l (π .from i) (π .from j) (π .from-below i hi) (π .from-below j hj) (cell-back m i j hi hj ∙ e)))
+      (λ i j hi hj e.
+      no-empty n r l (π .from i) (π .from j) (π .from-below i hi) (π .from-below j hj) (cell-back m i j hi hj ∙ e)))
 
   renumber-change : (new old : List ℕ)
       → leb (n * n) (firstChange n new old) ≡ leb (n * n) (firstChange n (renumbered n π new) (renumbered n π old))
@@ -215,7 +218,7 @@ module _ (n : ℕ) (π : Renumbering n) where
       (alike-stop (ltb (firstEmpty n (arc n (node n m))) (n * n)) (ltb (firstEmpty n (arc n (node n r))) (n * n)) _ _ _ _
       (renumber-empty (arc n (node n m)) ∙ ap (λ (a : List ℕ). ltb (firstEmpty n a) (n * n)) arced)
       (refl, refl)
-      (subst (λ (a : List ℕ). Alike (rounds (suc (mostRounds n)) n 0 (arc n (node n m))) (rounds (suc (mostRounds n)) n 0 a)) arced
+      (subst (λ (a : List ℕ). Alike (allRounds n (arc n (node n m))) (allRounds n a)) arced
       (rounds-alike (suc (mostRounds n)) 0 (arc n (node n m)))))
 
   -- the renumbered matrix is accepted after as many rounds, with the network renumbered

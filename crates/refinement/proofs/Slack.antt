@@ -92,5 +92,6 @@ slack-falls n a b P Q B c =
     (λ l. split-lt j i
     (λ u. slack-less n a b B (Q .bytes) (P .full) j i u hi
     (λ e. c .differs (P .opposite i j hi hj ∙ ap converse e ∙ sym (Q .opposite i j hi hj))))
-    (λ u. let e : i ≡ j = omega arith in
-    absurd (subst (λ (x : ℕ). cell n a i x ≡ cell n b i x → ⊥) (sym e) (c .differs) (P .diagonal i hi ∙ sym (Q .diagonal i hi)))))
+    (λ u.
+    let e : j ≡ i = omega arith in
+    absurd (subst (λ (x : ℕ). cell n a i x ≡ cell n b i x → ⊥) e (c .differs) (P .diagonal i hi ∙ sym (Q .diagonal i hi)))))

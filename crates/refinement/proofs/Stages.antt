@@ -1,8 +1,9 @@
--- The cells of each stage, that each stage goes down and keeps every network, and what every round starts from. Assumes nothing.
+-- The cells of each stage, that each stage goes down and keeps every network, and what every round starts from.
+-- Assumes nothing.
 use mathlib.Core.Path.{_≡_, refl, sym, ap, ap₂, _∙_, subst}
 use mathlib.Core.Bool.{Bool, cond}
 use mathlib.Core.List.{List}
-use Prim.Native.Nat.{ℕ, zero, suc, _+_, _*_, _/_, _%_, _≤_, _<_}
+use Prim.Native.Nat.{ℕ, zero, suc, _+_, _*_, _≤_, _<_}
 use native.Mathlib.Nat.{le-refl, le-trans}
 use native.Mathlib.Numerals.{add-one}
 use native.Mathlib.Omega.{arith}
@@ -20,7 +21,7 @@ use Rattle.relation.proofs.Within.{intersect-comm, within-refl, within-of-eq, w
 use Rattle.relation.proofs.ConverseLaws.{converse-byte, converse-twice, converse-within, converse-intersect, converse-equal, converse-universal}
 use Rattle.relation.proofs.CompositionLaws.{compose-within, equal-compose, compose-equal, converse-compose, compose-loop}
 use Rattle.matrix.specs.Cells.{cell, row, column, grid, firstEmpty}
-use Rattle.matrix.proofs.CellLaws.{length-grid, at-place, cell-grid, ext-cell, no-empty}
+use Rattle.matrix.proofs.CellLaws.{length-grid, at-place, cell-grid, grid-same, no-empty}
 use Rattle.refinement.specs.Node.{nodeCell, node, emptyRegion}
 use Rattle.refinement.specs.Arc.{arcCell, arc}
 use Rattle.refinement.specs.Round.{through, round}
@@ -86,6 +87,10 @@ pub arc-cell : (n : ℕ) (m : List ℕ) (i j : ℕ) → i < n → j < n → cell
 unfolding arc
 arc-cell n m i j hi hj = cell-grid n (arcCell n m) i j hi hj
 
+pub arc-place : (n : ℕ) (m : List ℕ) (p : ℕ) → p < n * n → getD (arc n m) p 0 ≡ arcCell n m (row n p) (column n p)
+unfolding arc
+arc-place n m p h = at-place n (arcCell n m) p h
+
 pub length-round : (n : ℕ) (m : List ℕ) → length (round n m) ≡ n * n
 unfolding round
 length-round n m = length-grid n (λ i j. through n m i j n)
@@ -99,21 +104,23 @@ unfolding round
 round-place n m p h = at-place n (λ i j. through n m i j n) p h
 
 -- both rules at once, straight from the cells
+pub prepared-arc : (n : ℕ) (m : List ℕ) (i j : ℕ) → i < n → j < n
+    → arcCell n (node n m) i j ≡ intersect (nodeCell n m i j) (converse (nodeCell n m j i))
+prepared-arc n m i j hi hj =
+    ap₂ (λ (x y : ℕ). intersect x (converse y)) (node-cell n m i j hi hj) (node-cell n m j i hj hi)
+
 pub prepared-cell : (n : ℕ) (m : List ℕ) (i j : ℕ) → i < n → j < n
     → cell n (arc n (node n m)) i j ≡ intersect (nodeCell n m i j) (converse (nodeCell n m j i))
-prepared-cell n m i j hi hj =
-    arc-cell n (node n m) i j hi hj
-    ∙ ap₂ (λ (x y : ℕ). intersect x (converse y)) (node-cell n m i j hi hj) (node-cell n m j i hj hi)
+prepared-cell n m i j hi hj = arc-cell n (node n m) i j hi hj ∙ prepared-arc n m i j hi hj
 
-pub prepared-grid : (n : ℕ) (m : List ℕ) → arc n (node n m) ≡ grid n (λ i j. intersect (nodeCell n m i j) (converse (nodeCell n m j i)))
+pub prepared-grid : (n : ℕ) (m : List ℕ)
+    → arc n (node n m) ≡ grid n (λ i j. intersect (nodeCell n m i j) (converse (nodeCell n m j i)))
+unfolding arc
 prepared-grid n m =
-    ext-cell n (arc n (node n m)) (grid n f) (length-arc n (node n m)) (length-grid n f)
-    (λ i j hi hj. prepared-cell n m i j hi hj ∙ sym (cell-grid n f i j hi hj))
-  where
-    f : ℕ → ℕ → ℕ
-    f i j = intersect (nodeCell n m i j) (converse (nodeCell n m j i))
+    grid-same n (arcCell n (node n m)) (λ i j. intersect (nodeCell n m i j) (converse (nodeCell n m j i))) (prepared-arc n m)
 
-pub prepared-region : (n : ℕ) (m : List ℕ) → emptyRegion n (node n m) ≡ least n (λ i. eqb (intersect (cell n m i i) (only equal)) 0)
+pub prepared-region : (n : ℕ) (m : List ℕ)
+    → emptyRegion n (node n m) ≡ least n (λ i. eqb (intersect (cell n m i i) (only equal)) 0)
 unfolding emptyRegion
 prepared-region n m =
     least-same n (λ i. eqb (cell n (node n m) i i) 0) (λ i. eqb (intersect (cell n m i i) (only equal)) 0)
@@ -140,7 +147,8 @@ through-within n m i j (suc count) k h =
     let c : ℕ = compose (cell n m i count) (cell n m count j) in
     split-lt k count
     (λ l. within-trans (within-left t c) (through-within n m i j count k l))
-    (λ l. subst (λ (x : ℕ). Within (through n m i j (suc count)) (compose (cell n m i x) (cell n m x j))) (omega arith) (within-right t c))
+    (λ l. subst (λ (x : ℕ). Within (through n m i j (suc count)) (compose (cell n m i x) (cell n m x j))) (omega arith)
+    (within-right t c))
 
 pub through-largest : (n : ℕ) (m : List ℕ) (i j count s : ℕ) → Within s universal
     → ((k : ℕ) → k < count → Within s (compose (cell n m i k) (cell n m k j))) → Within s (through n m i j count)
@@ -153,7 +161,8 @@ pub through-universal : (n : ℕ) (m : List ℕ) (i j count : ℕ) → Within (t
 unfolding through
 through-universal n m i j zero = within-refl universal
 through-universal n m i j (suc count) =
-    within-trans (within-left (through n m i j count) (compose (cell n m i count) (cell n m count j))) (through-universal n m i j count)
+    within-trans (within-left (through n m i j count) (compose (cell n m i count) (cell n m count j)))
+    (through-universal n m i j count)
 
 pub through-byte : (n : ℕ) (m : List ℕ) (i j count : ℕ) → through n m i j count < 256
 through-byte n m i j count = within-byte (through-universal n m i j count) (lit< tt)
@@ -180,7 +189,8 @@ round-below n m P = record {
   cells = λ i j hi hj.
       rw (round-cell n m i j hi hj)
       (within-trans (through-within n m i j n i hi)
-      (within-of-eq (ap (λ (x : ℕ). compose x (cell n m i j)) (P .diagonal i hi) ∙ equal-compose (cell n m i j) (P .bytes .byte i j hi hj))));
+      (within-of-eq (ap (λ (x : ℕ). compose x (cell n m i j)) (P .diagonal i hi)
+      ∙ equal-compose (cell n m i j) (P .bytes .byte i j hi hj))));
 }
 
 -- ---- what a network has besides
@@ -243,7 +253,8 @@ pub network-arc : {n : ℕ} {m w : List ℕ} (a : List ℕ) → Network n m w �
 network-arc {n} {m} {w} a N B = record {
   cells = λ i j hi hj.
       rw (arc-cell n a i j hi hj)
-      (within-both (B .cells i j hi hj) (within-trans (within-of-eq (N .opposite i j hi hj)) (converse-within (B .cells j i hj hi))));
+      (within-both (B .cells i j hi hj)
+      (within-trans (within-of-eq (N .opposite i j hi hj)) (converse-within (B .cells j i hj hi))));
 }
 
 pub network-round : {n : ℕ} {m w : List ℕ} (a : List ℕ) → Network n m w → Below n w a → Below n w (round n a)
@@ -276,7 +287,8 @@ pub node-done : (n : ℕ) (m : List ℕ) → n ≤ emptyRegion n (node n m) → 
 node-done n m l i h =
     only-equal-within (rw (node-self n m i h) (within-right (cell n m i i) (only equal))) (no-region-empty n (node n m) l i h)
 
-pub arc-diagonal : (n : ℕ) (m : List ℕ) → ((i : ℕ) → i < n → cell n m i i ≡ only equal) → (i : ℕ) → i < n → cell n (arc n m) i i ≡ only equal
+pub arc-diagonal : (n : ℕ) (m : List ℕ) → ((i : ℕ) → i < n → cell n m i i ≡ only equal) → (i : ℕ) → i < n
+    → cell n (arc n m) i i ≡ only equal
 arc-diagonal n m D i h =
     arc-cell n m i i h h ∙ ap (λ (x : ℕ). intersect x (converse x)) (D i h) ∙ ap (intersect (only equal)) converse-equal
 
@@ -289,7 +301,8 @@ arc-opposite n m A i j hi hj =
     ∙ ap (intersect (converse y)) (sym (converse-twice x (A .byte i j hi hj)))
     ∙ sym (converse-intersect y (converse x)) ∙ ap converse (sym (arc-cell n m j i hj hi))
 
-pub arc-plain : (n : ℕ) (m : List ℕ) → Bytes n m → ((i : ℕ) → i < n → cell n m i i ≡ only equal) → Filled n (arc n m) → Plain n (arc n m)
+pub arc-plain : (n : ℕ) (m : List ℕ) → Bytes n m → ((i : ℕ) → i < n → cell n m i i ≡ only equal) → Filled n (arc n m)
+    → Plain n (arc n m)
 arc-plain n m A D F = record {
   bytes = below-bytes n (arc-below n m) A;
   full = F;

@@ -1,6 +1,7 @@
--- The refinement of a matrix: the node rule, the arc rule, then rounds until one changes nothing or empties a cell. Assumes nothing.
+-- The refinement of a matrix: the node rule, the arc rule, then rounds until one changes nothing or empties a cell.
+-- Assumes nothing.
 use Prim.Native.Nat.{ℕ, zero, suc, _*_, _-_, _/_}
-use mathlib.Core.Bool.{Bool, not, _||_}
+use mathlib.Core.Bool.{not, _||_}
 use mathlib.Core.List.{List}
 use lib.Dec.{leb, ltb, eqb}
 use lib.ListN.{length}
@@ -14,8 +15,8 @@ use Rattle.refinement.specs.Round.{round, ranOut}
 unfoldable pub mostRounds : ℕ → ℕ
 mostRounds n = 7 * (n * (n - 1) / 2)
 
--- the rounds from `old` on, after `count` rounds that changed something. A new cell that is empty: refusal 23 at the first in row
--- order, naming i, k, j. Nothing changed: accepted. `more` is how many rounds may still be made; it is never what ends them
+-- the rounds from `old` on, after `count` rounds that changed something. A new cell that is empty: refusal 23 at the first in
+-- row order, naming i, k, j. Nothing changed: accepted. `more` is how many rounds may still be made; it is never what ends them
 unfoldable pub rounds : ℕ → ℕ → ℕ → List ℕ → Outcome
 rounds zero n count old = accepted count old
 rounds (suc more) n count old =

@@ -35,7 +35,12 @@ least-step count start test r false e rest =
 least-from : (count start : ℕ) (test : ℕ → Bool) → LeastFrom count start test (leastFrom count start test)
 unfolding leastFrom
 least-from zero start test =
-    record { above = omega arith; within = omega arith; before = λ k a b. absurd (omega arith); found = λ h. absurd (omega arith) }
+    record {
+      above = omega arith;
+      within = omega arith;
+      before = λ k a b. absurd (omega arith);
+      found = λ h. absurd (omega arith);
+    }
 least-from (suc count) start test =
     least-step count start test (leastFrom count (suc start) test) (test start) refl (least-from count (suc start) test)
 
@@ -55,7 +60,8 @@ least-one n test r q a b =
     (λ l. split-lt q r (λ m. absurd (clash n test q r b a m)) (λ m. omega arith))
 
 -- a search that ends at the first place that passes has found it
-pub least-here : (n : ℕ) (test : ℕ → Bool) (p : ℕ) → p < n → ((k : ℕ) → k < p → test k ≡ false) → test p ≡ true → p ≡ least n test
+pub least-here : (n : ℕ) (test : ℕ → Bool) (p : ℕ) → p < n → ((k : ℕ) → k < p → test k ≡ false) → test p ≡ true
+    → p ≡ least n test
 least-here n test p l before e =
     least-one n test p (least n test) (record { within = omega arith; before = before; found = λ _. e }) (least-is n test)
 

@@ -1,19 +1,18 @@
 -- What looking an identifier up says of the entries, and what the entries say of it. Assumes nothing.
-use mathlib.Core.Path.{_≡_, refl, sym, ap, _∙_, subst}
-use mathlib.Core.Bool.{false}
+use mathlib.Core.Path.{_≡_, refl, sym, ap, subst}
+use mathlib.Core.Bool.{Bool, true, false}
 use mathlib.Core.List.{List}
-use Prim.Native.Nat.{ℕ, _≤_, _<_, min}
+use Prim.Native.Nat.{ℕ, _≤_, _<_}
 use native.Mathlib.Omega.{arith}
 use borrow.Author.Tests.{lt-ltb, le-ltb, eqb-true, eqb-false, ne-eqb, eq-eqb}
-use lib.Dec.{eqb, ltb}
+use lib.Dec.{eqb}
 use lib.ListN.{length, getD}
 use Rattle.region.specs.Lookup.{place, identifier, declared, firstHolding, lookupOf}
 use Rattle.region.specs.declared.Identifier.{Identifier}
 use Rattle.region.specs.declared.Place.{Place}
-use Rattle.region.specs.declared.Found.{Found}
 use Rattle.region.specs.declared.Found.the-variants.{At, Nothing}
 use Rattle.region.proofs.Splits.{split-lt}
-use Rattle.region.proofs.LeastLaws.{Least, least-is, least-here, least-gone}
+use Rattle.region.proofs.LeastLaws.{least-is, least-here, least-gone}
 
 -- what the place that is found is
 pub record Holds (identifiers : List ℕ) (count p wanted : ℕ) : Type 0 where
@@ -23,6 +22,13 @@ pub record Holds (identifiers : List ℕ) (count p wanted : ℕ) : Type 0 where
   pub first : (k : ℕ) → k < p → getD identifiers k 0 ≡ wanted → ⊥
 
 module _ (identifiers : List ℕ) (count : ℕ) (wanted : Identifier) where
+  abbrev holding : ℕ → Bool
+  holding k = eqb (getD identifiers k 0) (wanted .0)
+
+  -- no entry before p holds the identifier
+  abbrev Passed : ℕ → Type 0
+  Passed p = (k : ℕ) → k < p → holding k ≡ false
+
   at-first : (p : ℕ) → p ≡ firstHolding identifiers count (wanted .0) → p < declared identifiers count
       → At (place p) ≡ lookupOf identifiers count wanted
   unfolding lookupOf
@@ -34,27 +40,24 @@ module _ (identifiers : List ℕ) (count : ℕ) (wanted : Identifier) where
   at-none p e l = rw (← e, le-ltb p (declared identifiers count) l)
 
   -- a search that has passed the first p entries finds the identifier at p
-  pub finds-here : (p : ℕ) → p < count → p < length identifiers → ((k : ℕ) → k < p → eqb (getD identifiers k 0) (wanted .0) ≡ false)
-      → getD identifiers p 0 ≡ wanted .0 → At (place p) ≡ lookupOf identifiers count wanted
+  pub finds-here : (p : ℕ) → p < count → p < length identifiers → Passed p → getD identifiers p 0 ≡ wanted .0
+      → At (place p) ≡ lookupOf identifiers count wanted
   unfolding firstHolding
   finds-here p l u before e =
-      at-first p
-      (least-here (declared identifiers count) (λ k. eqb (getD identifiers k 0) (wanted .0)) p (omega arith) before (eq-eqb (getD identifiers p 0) (wanted .0) e))
-      (omega arith)
+      let found : holding p ≡ true = eq-eqb (getD identifiers p 0) (wanted .0) e in
+      at-first p (least-here (declared identifiers count) holding p (omega arith) before found) (omega arith)
 
   -- and where these are all, nothing
-  pub finds-nothing : (p : ℕ) → p ≡ declared identifiers count → ((k : ℕ) → k < p → eqb (getD identifiers k 0) (wanted .0) ≡ false)
-      → Nothing ≡ lookupOf identifiers count wanted
+  pub finds-nothing : (p : ℕ) → p ≡ declared identifiers count → Passed p → Nothing ≡ lookupOf identifiers count wanted
   unfolding firstHolding
-  finds-nothing p e before =
-      at-none p (least-gone (declared identifiers count) (λ k. eqb (getD identifiers k 0) (wanted .0)) p e before) (omega arith)
+  finds-nothing p e before = at-none p (least-gone (declared identifiers count) holding p e before) (omega arith)
 
   -- what is found is the first entry that holds the identifier
   pub lookup-found : (p : ℕ) → lookupOf identifiers count wanted ≡ At (place p) → Holds identifiers count p (wanted .0)
   unfolding firstHolding
   lookup-found p e =
       let q : ℕ = firstHolding identifiers count (wanted .0) in
-      let M = least-is (declared identifiers count) (λ k. eqb (getD identifiers k 0) (wanted .0)) in
+      let M = least-is (declared identifiers count) holding in
       split-lt q (declared identifiers count)
       (λ l.
       let same : place q ≡ place p = cc (at-first q refl l) in
@@ -74,7 +77,7 @@ module _ (identifiers : List ℕ) (count : ℕ) (wanted : Identifier) where
   unfolding firstHolding
   lookup-nothing e k l u =
       let q : ℕ = firstHolding identifiers count (wanted .0) in
-      let M = least-is (declared identifiers count) (λ k. eqb (getD identifiers k 0) (wanted .0)) in
+      let M = least-is (declared identifiers count) holding in
       split-lt q (declared identifiers count)
       (λ v. let z : _≡_ {A = ℕ} 0 1 = cc (at-first q refl v) in absurd (omega arith))
       (λ v. eqb-false (getD identifiers k 0) (wanted .0) (M .before k (omega arith)))
