@@ -1,0 +1,12 @@
+pub mod Filling
+pub mod Running
+pub mod Handing
+pub mod Prepared
+pub mod Stepped
+pub mod Endings
+pub mod Turning
+pub mod Fronts
+pub mod Verdicts
+pub mod Unique
+pub mod Demand3
+pub mod Consequences

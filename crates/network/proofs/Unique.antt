@@ -1,0 +1,27 @@
+-- No second answer meets the contract of `refine` or that of `network`. Assumes nothing.
+use mathlib.Core.Path.{_≡_, sym, _∙_}
+use contract.Lifetimes.{Lfts}
+use denote.Ref.{now}
+use denote.Triple.Clauses.{AtExit}
+use borrow.Fn.Kinds.{Dens, resT, endedOf}
+use Rattle.network.proofs.refine.Kinds as refining
+use Rattle.network.proofs.refine.Reads.{Post as Refines}
+use Rattle.network.proofs.network.Kinds as handing
+use Rattle.network.proofs.network.Reads.{Post as Hands}
+use Rattle.network.proofs.Verdicts.{one-verdict}
+
+-- the verdict, and what is left in the first and in the second area
+pub refine-unique : (κs : Lfts 3) (a : Dens κs refining.ps) (r r′ : resT refining.r κs .Denot)
+    (s s′ : AtExit (endedOf 3 refining.ps refining.r) κs) → Refines κs a r s → Refines κs a r′ s′
+    → (r ≡ r′) × (now (s .1 .1 .0) ≡ now (s′ .1 .1 .0)) × (now (s .1 .1 .1 .0) ≡ now (s′ .1 .1 .1 .0))
+refine-unique κs a r r′ s s′ p q = (
+  one-verdict _ _ r r′ (p .names) (q .names) (p .answer) (q .answer),
+  p .inFirst ∙ sym (q .inFirst),
+  p .inSecond ∙ sym (q .inSecond),
+)
+
+-- the bytes, and where they begin
+pub network-unique : (κs : Lfts 1) (a : Dens κs handing.ps) (r r′ : resT handing.r κs .Denot)
+    (s s′ : AtExit (endedOf 1 handing.ps handing.r) κs) → Hands κs a r s → Hands κs a r′ s′
+    → (now r ≡ now r′) × (r .ptr ≡ r′ .ptr)
+network-unique κs a r r′ s s′ p q = (p .bytes ∙ sym (q .bytes), p .itself ∙ sym (q .itself))

@@ -1,0 +1,61 @@
+-- `cells::first_change` meets its contract. The loop's invariant: the cells before the place are the same. Assumes nothing.
+use mathlib.Core.Path.{_≡_, ap}
+use mathlib.Core.Bool.{false, not}
+use Prim.Native.Nat.{ℕ, _≤_, _<_, _-_}
+use borrow.Author.Needs.{needs}
+use borrow.Author.Tests.{eq-eqb, ne-eqb}
+use native.Mathlib.Omega.{arith}
+use lib.Dec.{eqb}
+use lib.ListN.{length, getD}
+use Rattle.region.proofs.LeastLaws.{least-here, least-gone, below-next}
+use Rattle.matrix.specs.Cells.{firstChange}
+use Rattle.network.proofs.cells.first_change.Statement.{statement}
+use Rattle.network.proofs.cells.first_change.Tie as tie
+
+abbrev Inv-loop : tie.InvT-loop
+Inv-loop n new old place₀ place =
+    (place ≤ length new) × ((k : ℕ) → k < place → not (eqb (getD new k 0) (getD old k 0)) ≡ false)
+
+abbrev μ-loop : tie.MeasureT-loop
+μ-loop n new old place₀ place = length new - place
+
+loop-holds : tie.Need-loop-holds Inv-loop μ-loop
+loop-holds c = (search needs, λ k l. absurd (omega arith))
+
+shared-slice-read-if1 : tie.Need-shared-slice-read-if1 Inv-loop μ-loop
+shared-slice-read-if1 c = search needs
+
+shared-slice-read-if1-2 : tie.Need-shared-slice-read-if1-2 Inv-loop μ-loop
+shared-slice-read-if1-2 c = search needs
+
+returns : tie.Need-returns Inv-loop μ-loop
+unfolding firstChange
+returns c = least-here _ _ _ (omega arith) (c .before .before .before .before .loop .inv .1) (ap not (ne-eqb _ _ (c .if1 .taken)))
+
+add-place : tie.Need-add-place Inv-loop μ-loop
+add-place c = search needs
+
+loop-less : tie.Need-loop-less Inv-loop μ-loop
+loop-less c = search needs
+
+loop-again : tie.Need-loop-again Inv-loop μ-loop
+loop-again c = (search needs, below-next _ _ (c .before .before .before .before .loop .inv .1) (ap not (eq-eqb _ _ (c .if1 .left))))
+
+returns-2 : tie.Need-returns-2 Inv-loop μ-loop
+unfolding firstChange
+returns-2 c = least-gone _ _ _ (omega arith) (c .before .loop .inv .1)
+
+pub first-change-spec : {M : Type 1} → statement M
+first-change-spec =
+    tie.close
+    (tie.spec
+    Inv-loop
+    μ-loop
+    loop-holds
+    shared-slice-read-if1
+    shared-slice-read-if1-2
+    returns
+    add-place
+    loop-less
+    loop-again
+    returns-2)

@@ -1,0 +1,76 @@
+-- `prepare::arc_stage` meets its contract. The loop's invariant: the cells before the place are those of the arc stage. Assumes nothing.
+use mathlib.Core.Path.{_≡_, sym, _∙_}
+use Prim.Native.Nat.{_-_}
+use borrow.Author.Needs.{needs}
+use native.Mathlib.Omega.{arith}
+use lib.ListN.{length}
+use Rattle.matrix.proofs.CellLaws.{row-lt, column-lt}
+use Rattle.refinement.specs.Node.{node}
+use Rattle.refinement.specs.Arc.{arc}
+use Rattle.network.proofs.Filling.{Filling, filling-starts, filling-goes-on, filling-ends}
+use Rattle.refinement.proofs.Stages.{length-arc}
+use Rattle.network.proofs.Prepared.{arc-at}
+use Rattle.network.proofs.prepare.arc_stage.Statement.{statement}
+use Rattle.network.proofs.prepare.arc_stage.Tie as tie
+
+abbrev Inv-loop : tie.InvT-loop
+Inv-loop n cells area₀ place₀ area place = Filling (arc n (node n cells)) area₀ area place
+
+abbrev μ-loop : tie.MeasureT-loop
+μ-loop n cells area₀ place₀ area place = length area₀ - place
+
+fits : (c : tie.Start Inv-loop μ-loop)
+    → length (arc (c .args .n) (node (c .args .n) (c .args .cells .now))) ≡ length (c .args .area .now)
+fits c = length-arc (c .args .n) (node (c .args .n) (c .args .cells .now)) ∙ sym (c .pre .1 .size)
+
+loop-holds : tie.Need-loop-holds Inv-loop μ-loop
+loop-holds c = filling-starts _ _ (fits (c .before .before))
+
+div-arc-cell : tie.Need-div-arc-cell Inv-loop μ-loop
+div-arc-cell c = omega (arith, row-lt (c .before .before .before .before .args .n) (c .before .loop .place) (omega arith))
+
+rem-arc-cell : tie.Need-rem-arc-cell Inv-loop μ-loop
+rem-arc-cell c = div-arc-cell c
+
+arc-cell-requires : tie.Need-arc-cell-requires Inv-loop μ-loop
+arc-cell-requires c κs =
+    let s = c .before .before .before .before in
+    (row-lt (s .args .n) (c .before .loop .place) (omega arith), column-lt (s .args .n) (c .before .loop .place) (omega arith), s .pre .0)
+
+slice-write-area : tie.Need-slice-write-area Inv-loop μ-loop
+slice-write-area c = search needs
+
+add-place : tie.Need-add-place Inv-loop μ-loop
+add-place c = search needs
+
+loop-less : tie.Need-loop-less Inv-loop μ-loop
+loop-less c = search needs
+
+loop-again : tie.Need-loop-again Inv-loop μ-loop
+loop-again c =
+    let s = c .before .before .before .before .before in
+    filling-goes-on _ _ (fits s) _ _ (c .before .before .loop .inv) _ (c .before .loop-test .taken)
+    (arc-at (s .args .n) (node (s .args .n) (s .args .cells .now)) (c .before .before .loop .place) _ (omega arith) (c .arc-cell .ensures))
+
+same-length : tie.Need-same-length Inv-loop μ-loop
+same-length c = c .before .loop .inv .same
+
+returns : tie.Need-returns Inv-loop μ-loop
+returns c = filling-ends _ _ (fits (c .before .before .before .before)) _ _ (c .before .loop .inv) (c .loop-test .left)
+
+pub arc-stage-spec : {M : Type 1} → statement M
+arc-stage-spec =
+    tie.close
+    (tie.spec
+    Inv-loop
+    μ-loop
+    loop-holds
+    div-arc-cell
+    rem-arc-cell
+    arc-cell-requires
+    slice-write-area
+    add-place
+    loop-less
+    loop-again
+    same-length
+    returns)

@@ -1,0 +1,22 @@
+-- `round::along` meets its contract: by the listed entries a set composes as by the table. Assumes nothing.
+use borrow.Author.Needs.{needs}
+use Rattle.network.proofs.Running.{composed-by-listed}
+use Rattle.network.proofs.round.along.Statement.{statement}
+use Rattle.network.proofs.round.along.Tie as tie
+
+at-requires : tie.Need-at-requires
+at-requires c κs = search needs
+
+at-requires-2 : tie.Need-at-requires-2
+at-requires-2 c κs = search needs
+
+compose-by-requires : tie.Need-compose-by-requires
+compose-by-requires c κs = search needs
+
+returns : tie.Need-returns
+returns c =
+    let s = c .before .before .before .before in
+    composed-by-listed (s .pre .3) (c .before .at2 .ensures) (c .before .before .at .ensures) (c .compose-by .ensures)
+
+pub along-spec : {M : Type 1} → statement M
+along-spec = tie.close (tie.spec at-requires at-requires-2 compose-by-requires returns)

@@ -1,0 +1,66 @@
+-- `round::ran_out` meets its contract. The loop's invariant: the set is (i, j) intersected with the compositions through the places
+-- below k, and it was not empty at any of them. Assumes nothing.
+use Prim.Native.Nat.{_+_, _*_, _-_}
+use borrow.Author.Needs.{needs}
+use Rattle.network.proofs.Running.{Running, running-starts, running-on, running-out, running-ends}
+use Rattle.network.proofs.round.ran_out.Statement.{statement}
+use Rattle.network.proofs.round.ran_out.Tie as tie
+
+abbrev Inv-loop : tie.InvT-loop
+Inv-loop entries n old i j set₀ k₀ set k = Running n old i j k (set .0)
+
+abbrev μ-loop : tie.MeasureT-loop
+μ-loop entries n old i j set₀ k₀ set k = n - k
+
+at-requires : tie.Need-at-requires Inv-loop μ-loop
+at-requires c κs = search needs
+
+loop-holds : tie.Need-loop-holds Inv-loop μ-loop
+loop-holds c =
+    let s = c .before .before .args in
+    running-starts _ _ _ _ _ (c .at .ensures) (c .before .shared-slice-known .given (s .i * s .n + s .j) .fits)
+
+along-requires : tie.Need-along-requires Inv-loop μ-loop
+along-requires c κs = search needs
+
+intersect-requires : tie.Need-intersect-requires Inv-loop μ-loop
+intersect-requires c κs = search needs
+
+is-empty-requires : tie.Need-is-empty-requires Inv-loop μ-loop
+is-empty-requires c κs = search needs
+
+returns : tie.Need-returns Inv-loop μ-loop
+returns c =
+    running-out (c .before .before .before .before .before .loop .inv) (c .before .before .before .before .loop-test .taken) _ _
+    (c .before .before .before .along .ensures) (c .before .before .intersect .ensures) _ (c .before .is-empty .ensures) (c .if1 .taken)
+
+add-k : tie.Need-add-k Inv-loop μ-loop
+add-k c = search needs
+
+loop-less : tie.Need-loop-less Inv-loop μ-loop
+loop-less c = search needs
+
+loop-again : tie.Need-loop-again Inv-loop μ-loop
+loop-again c =
+    running-on (c .before .before .before .before .before .loop .inv) (c .before .before .before .before .loop-test .taken) _ _
+    (c .before .before .before .along .ensures) (c .before .before .intersect .ensures) _ (c .before .is-empty .ensures) (c .if1 .left)
+
+returns-2 : tie.Need-returns-2 Inv-loop μ-loop
+returns-2 c = running-ends (c .before .loop .inv) (c .loop-test .left)
+
+pub ran-out-spec : {M : Type 1} → statement M
+ran-out-spec =
+    tie.close
+    (tie.spec
+    Inv-loop
+    μ-loop
+    at-requires
+    loop-holds
+    along-requires
+    intersect-requires
+    is-empty-requires
+    returns
+    add-k
+    loop-less
+    loop-again
+    returns-2)
