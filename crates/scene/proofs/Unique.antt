@@ -1,0 +1,81 @@
+-- No second answer meets the contracts of `Refusal::number`, `read` and `refused_record`. Assumes nothing.
+use mathlib.Core.Path.{_≡_, refl, sym, ap, _∙_}
+use Prim.Native.Nat.{ℕ}
+use mathlib.Core.List.{[], _∷_}
+use lib.ListN.{getD}
+use contract.Lifetimes.{Lfts}
+use denote.Ref.{now}
+use denote.Triple.Clauses.{AtExit}
+use borrow.Fn.Kinds.{Dens, resT, endedOf}
+use Rattle.answer.specs.Answer.{Answer}
+use Rattle.scene.specs.Numbers.{answerOf}
+use Rattle.scene.specs.declared.Reading.{Reading}
+use Rattle.scene.specs.declared.Reading.the-variants.{Accepted, WrongLength, TooLong, Refused}
+use Rattle.scene.specs.declared.Refusal.{Refusal}
+use Rattle.scene.specs.declared.Refusal.the-variants.{NoRegion, CutShort, UnknownKind, IdentifierZero, DeclaredTwice, TooManyRegions, NotDeclared, EmptySet, BytesLeft}
+use Rattle.scene.proofs.Refusal.number.Kinds as number-kinds
+use Rattle.scene.proofs.Refusal.number.Reads as number-reads
+use Rattle.scene.proofs.read.Kinds as read-kinds
+use Rattle.scene.proofs.read.Reads as read-reads
+use Rattle.scene.proofs.refused_record.Kinds as part-kinds
+use Rattle.scene.proofs.refused_record.Reads as part-reads
+
+pub number-unique : (κs : Lfts 0) (a : Dens κs number-kinds.ps) (r r' : resT number-kinds.r κs .Denot)
+    (s s' : AtExit (endedOf 0 number-kinds.ps number-kinds.r) κs)
+    → number-reads.Post κs a r s → number-reads.Post κs a r' s' → r ≡ r'
+number-unique κs a r r' s s' p q = p ∙ sym q
+
+pub refused-record-unique : (κs : Lfts 1) (a : Dens κs part-kinds.ps) (r r' : resT part-kinds.r κs .Denot)
+    (s s' : AtExit (endedOf 1 part-kinds.ps part-kinds.r) κs)
+    → part-reads.Post κs a r s → part-reads.Post κs a r' s' → (now r ≡ now r') × (r .ptr ≡ r' .ptr)
+refused-record-unique κs a r r' s s' p q = (p .bytes ∙ sym (q .bytes), p .itself ∙ sym (q .itself))
+
+-- the reading that an answer stands for: by its number, from 0
+reading-of : Answer → Reading
+reading-of a =
+    getD
+    (Accepted (a .count)
+    ∷ Refused NoRegion (a .first)
+    ∷ WrongLength
+    ∷ TooLong
+    ∷ Refused CutShort (a .first)
+    ∷ Refused UnknownKind (a .first)
+    ∷ Refused IdentifierZero (a .first)
+    ∷ Refused DeclaredTwice (a .first)
+    ∷ Refused TooManyRegions (a .first)
+    ∷ Refused NotDeclared (a .first)
+    ∷ Refused EmptySet (a .first)
+    ∷ Refused BytesLeft (a .first)
+    ∷ [])
+    (a .number)
+    WrongLength
+
+refused-back : (refusal : Refusal) (place : ℕ) → reading-of (answerOf (Refused refusal place)) ≡ Refused refusal place
+unfolding reading-of
+refused-back NoRegion place = refl
+refused-back CutShort place = refl
+refused-back UnknownKind place = refl
+refused-back IdentifierZero place = refl
+refused-back DeclaredTwice place = refl
+refused-back TooManyRegions place = refl
+refused-back NotDeclared place = refl
+refused-back EmptySet place = refl
+refused-back BytesLeft place = refl
+
+reading-back : (reading : Reading) → reading-of (answerOf reading) ≡ reading
+unfolding reading-of
+reading-back (Accepted regions) = refl
+reading-back WrongLength = refl
+reading-back TooLong = refl
+reading-back (Refused refusal place) = refused-back refusal place
+
+-- so two readings with the same answer are the same
+pub answer-tells : (reading other : Reading) → answerOf reading ≡ answerOf other → reading ≡ other
+answer-tells reading other e = sym (reading-back reading) ∙ ap reading-of e ∙ reading-back other
+
+pub read-unique : (κs : Lfts 3) (a : Dens κs read-kinds.ps) (r r' : resT read-kinds.r κs .Denot)
+    (s s' : AtExit (endedOf 3 read-kinds.ps read-kinds.r) κs)
+    → read-reads.Post κs a r s → read-reads.Post κs a r' s'
+    → (r ≡ r') × (now (s .1 .0) ≡ now (s' .1 .0)) × (now (s .1 .1 .0) ≡ now (s' .1 .1 .0))
+read-unique κs a r r' s s' p q =
+    (answer-tells r r' (p .answer ∙ sym (q .answer)), p .identifiers ∙ sym (q .identifiers), p .cells ∙ sym (q .cells))

@@ -1,0 +1,94 @@
+// Scene files: the reader, and the bytes of a refused record.
+mod areas;
+mod format;
+mod record;
+mod records;
+mod span;
+
+use areas::clear_identifiers;
+use areas::fill_cells;
+use format::LENT_CELLS;
+use format::MOST_BYTES;
+use format::MOST_REGIONS;
+use records::read_records;
+use span::span_of;
+ghost use mathlib.Core.Path.{_≡_};
+ghost use Rattle.scene.specs.Format.{lentIdentifiers, lentCells};
+ghost use Rattle.scene.specs.Reading.{readOf};
+ghost use Rattle.scene.specs.Numbers.{numberOf};
+ghost use Rattle.scene.specs.Reads.{Reads};
+ghost use Rattle.scene.specs.Span.{RefusedPart};
+
+// Why a record is refused.
+pub enum Refusal {
+    NoRegion,
+    CutShort,
+    UnknownKind,
+    IdentifierZero,
+    DeclaredTwice,
+    TooManyRegions,
+    NotDeclared,
+    EmptySet,
+    BytesLeft,
+}
+
+impl Refusal {
+    // Document 01's number.
+    pub fn number(self) -> u32
+        ensures { λ r. ⌜ r ≡ numberOf self ⌝ }
+    {
+        match self {
+            Refusal::NoRegion => 1,
+            Refusal::CutShort => 4,
+            Refusal::UnknownKind => 5,
+            Refusal::IdentifierZero => 6,
+            Refusal::DeclaredTwice => 7,
+            Refusal::TooManyRegions => 8,
+            Refusal::NotDeclared => 9,
+            Refusal::EmptySet => 10,
+            Refusal::BytesLeft => 11,
+        }
+    }
+}
+
+pub enum Reading {
+    // Read to its end, with so many regions.
+    Accepted(usize),
+    // The lent identifiers are not 64, or the cells not 4,096.
+    WrongLength,
+    // The scene has more than 32,768 bytes.
+    TooLong,
+    // Refused, at this byte of the scene.
+    Refused(Refusal, usize),
+}
+
+// Reads a scene into 64 identifiers and 4,096 cells: the first n identifiers, and the cells in rows of n.
+pub fn read(scene: &[u8], identifiers: &mut [u32], cells: &mut [u8]) -> Reading
+    ensures { λ r. ⌜ Reads (now (scene .entry)) (now (identifiers .entry)) (now (cells .entry)) (now (identifiers .exit)) (now (cells .exit)) r ⌝ }
+{
+    if identifiers.len() != MOST_REGIONS {
+        return Reading::WrongLength;
+    }
+    if cells.len() != LENT_CELLS {
+        return Reading::WrongLength;
+    }
+    if MOST_BYTES < scene.len() {
+        clear_identifiers(identifiers);
+        fill_cells(cells, 0);
+        return Reading::TooLong;
+    }
+    read_records(scene, identifiers, cells)
+}
+
+// The refused record's own bytes, as a part of the scene: its full length or what remains of it, one byte for an unknown kind,
+// everything left for bytes after the end; an empty part where no record is refused.
+pub fn refused_record(scene: &[u8]) -> &[u8]
+    ensures { λ r. ⌜ RefusedPart (now (scene .entry)) (readOf (now (scene .entry)) lentIdentifiers lentCells) (scene .entry .ptr) (now r) (r .ptr) ⌝ }
+{
+    let mut identifiers = [0u32; MOST_REGIONS];
+    let mut cells = [0u8; LENT_CELLS];
+    let span = span_of(scene, read(scene, &mut identifiers, &mut cells));
+    let start = span.start;
+    let end = span.end;
+    &scene[start..end]
+}
