@@ -19,11 +19,11 @@ abbrev pub statementOf : ℕ → ℕ → ℕ → List ℕ
 statementOf from to set = 2 ∷ bytesOf from ++ bytesOf to ++ (set ∷ [])
 
 -- the example, with its third identifier
-pub example : ℕ → List ℕ
+unfoldable pub example : ℕ → List ℕ
 example third = regionOf 7 ++ regionOf 9 ++ regionOf third ++ statementOf 7 9 8 ++ statementOf 9 4 8 ++ (3 ∷ [])
 
 -- what it says: region 7 at place 0, 9 at 1 and 4 at 2; 7 is inside 9, and 9 inside 4
-pub example-says : Said
+unfoldable pub example-says : Said
 example-says =
     record {
       identifiers = 7 ∷ 9 ∷ 4 ∷ [];

@@ -45,7 +45,7 @@ unfoldable pub spokenFrom : ℕ → List ℕ → ℕ → List Spoken
 spokenFrom zero scene at = []
 spokenFrom (suc more) scene at = adds scene at (spokenFrom more scene)
 
-pub spoken : List ℕ → List Spoken
+unfoldable pub spoken : List ℕ → List Spoken
 spoken scene = spokenFrom (suc (length scene)) scene 0
 
 -- the universal set intersected with the sets of the statements from one identifier to another

@@ -1,0 +1,4 @@
+pub mod Crossed
+pub mod Promised
+pub mod Unique
+pub mod Wide

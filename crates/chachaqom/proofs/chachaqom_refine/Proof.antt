@@ -1,0 +1,42 @@
+-- `chachaqom::chachaqom_refine` meets its contract: by the answer's length, and else by what the refinement left. Assumes nothing.
+use borrow.Author.Needs.{needs}
+use Rattle.chachaqom.proofs.Promised.{refine-unfit, refine-answered}
+use Rattle.chachaqom.proofs.chachaqom_refine.Statement.{statement}
+use Rattle.chachaqom.proofs.chachaqom_refine.Tie as tie
+
+returns : tie.Need-returns
+returns c = refine-unfit _ _ _ _ _ (c .if1 .taken)
+
+refine-requires : tie.Need-refine-requires
+refine-requires c κs = search needs
+
+of-verdict-requires : tie.Need-of-verdict-requires
+of-verdict-requires c κs = search needs
+
+put-requires : tie.Need-put-requires
+put-requires c κs = search needs
+
+same-length : tie.Need-same-length
+same-length c = search needs
+
+same-length-2 : tie.Need-same-length-2
+same-length-2 c = search needs
+
+same-length-3 : tie.Need-same-length-3
+same-length-3 c = search needs
+
+returns-2 : tie.Need-returns-2
+returns-2 c = refine-answered (c .before .before .before .before .before .before .before .before .before .before .before .before .if1 .left) (c .before .before .before .before .before .before .before .before .before .refine .ensures) (c .before .before .before .of-verdict .ensures) (c .before .before .put .ensures)
+
+pub chachaqom-refine-spec : {M : Type 1} → statement M
+chachaqom-refine-spec =
+    tie.close
+    (tie.spec
+    returns
+    refine-requires
+    of-verdict-requires
+    put-requires
+    same-length
+    same-length-2
+    same-length-3
+    returns-2)
