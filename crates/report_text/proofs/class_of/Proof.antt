@@ -1,0 +1,37 @@
+-- `report_text::class_of` meets its contract: each return goes by the tests that led there. Assumes nothing.
+use borrow.Author.Needs.{needs}
+use borrow.Author.Tests.{lt-ltb, le-ltb, eq-eqb, ne-eqb}
+use Rattle.report_text.specs.Class.{classOf}
+use Rattle.report_text.proofs.class_of.Statement.{statement}
+use Rattle.report_text.proofs.class_of.Tie as tie
+
+size-requires : tie.Need-size-requires
+size-requires c κs = search needs
+
+size-requires-2 : tie.Need-size-requires-2
+size-requires-2 c κs = search needs
+
+returns : tie.Need-returns
+unfolding classOf
+returns c = rw (← c .before .before .size .ensures, ← c .before .size2 .ensures, eq-eqb _ _ (c .if1 .taken))
+
+returns-2 : tie.Need-returns-2
+unfolding classOf
+returns-2 c = rw (← c .before .before .before .size .ensures, ← c .before .before .size2 .ensures, ne-eqb _ _ (c .before .if1 .left), eq-eqb _ _ (c .if2 .taken))
+
+returns-3 : tie.Need-returns-3
+unfolding classOf
+returns-3 c = rw (← c .before .before .before .before .size .ensures, ← c .before .before .before .size2 .ensures, ne-eqb _ _ (c .before .before .if1 .left), ne-eqb _ _ (c .before .if2 .left), lt-ltb _ _ (c .if3 .taken))
+
+returns-4 : tie.Need-returns-4
+unfolding classOf
+returns-4 c = rw (← c .before .before .before .before .before .size .ensures, ← c .before .before .before .before .size2 .ensures, ne-eqb _ _ (c .before .before .before .if1 .left), ne-eqb _ _ (c .before .before .if2 .left), le-ltb _ _ (c .before .if3 .left), lt-ltb _ _ (c .if4 .taken))
+
+returns-5 : tie.Need-returns-5
+unfolding classOf
+returns-5 c = rw (← c .before .before .before .before .before .size .ensures, ← c .before .before .before .before .size2 .ensures, ne-eqb _ _ (c .before .before .before .if1 .left), ne-eqb _ _ (c .before .before .if2 .left), le-ltb _ _ (c .before .if3 .left), le-ltb _ _ (c .if4 .left))
+
+pub class-of-spec : {M : Type 1} → statement M
+class-of-spec =
+    tie.close
+    (tie.spec size-requires size-requires-2 returns returns-2 returns-3 returns-4 returns-5)

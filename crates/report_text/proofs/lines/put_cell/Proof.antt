@@ -1,0 +1,53 @@
+-- `report_text::lines::put_cell` meets its contract: a line above the diagonal, and none elsewhere. Assumes nothing.
+use borrow.Author.Needs.{needs}
+use Rattle.report_text.proofs.LineLaws.{cell-adds, cell-adds-none}
+use denote.Ref.{now}
+use Rattle.report_text.proofs.lines.put_cell.Statement.{statement}
+use Rattle.report_text.proofs.lines.put_cell.Tie as tie
+
+div-i : tie.Need-div-i
+div-i c = search needs
+
+rem-j : tie.Need-rem-j
+rem-j c = search needs
+
+identifier-at-requires : tie.Need-identifier-at-requires
+identifier-at-requires c κs = search needs
+
+identifier-at-requires-2 : tie.Need-identifier-at-requires-2
+identifier-at-requires-2 c κs = search needs
+
+shared-slice-read-t17 : tie.Need-shared-slice-read-t17
+shared-slice-read-t17 c = search needs
+
+shared-slice-read-t20 : tie.Need-shared-slice-read-t20
+shared-slice-read-t20 c = search needs
+
+put-pair-requires : tie.Need-put-pair-requires
+put-pair-requires c κs = search needs
+
+same-length : tie.Need-same-length
+same-length c = search needs
+
+returns : tie.Need-returns
+returns c = let a = c .before .before .before .before .before .before .before .before .before .before .before .before .before .args in
+    cell-adds (a .n) (now (a .identifiers)) (now (a .stated)) (now (a .network)) (a .p) _ _ (c .before .before .before .before .before .before .before .before .if1 .taken) (c .before .before .before .before .before .before .before .identifier-at .ensures) (c .before .before .before .before .before .before .identifier-at2 .ensures) (c .before .before .put-pair .ensures)
+
+returns-2 : tie.Need-returns-2
+returns-2 c = let a = c .before .before .before .before .before .args in
+    cell-adds-none (a .n) (now (a .identifiers)) (now (a .stated)) (now (a .network)) (a .p) _ _ (c .if1 .left)
+
+pub put-cell-spec : {M : Type 1} → statement M
+put-cell-spec =
+    tie.close
+    (tie.spec
+    div-i
+    rem-j
+    identifier-at-requires
+    identifier-at-requires-2
+    shared-slice-read-t17
+    shared-slice-read-t20
+    put-pair-requires
+    same-length
+    returns
+    returns-2)

@@ -1,0 +1,113 @@
+-- `report_text::put_refined` meets its contract: each verdict's text is the report of the refinement. Assumes nothing.
+use borrow.Author.Needs.{needs}
+use native.Mathlib.Omega.{arith}
+use Rattle.report_text.proofs.Refinements.{Call, accepted-network, network-paired, accepted-reports, contradiction-reports, refused-reports}
+use denote.Ref.{now}
+use Rattle.report_text.proofs.put_refined.Statement.{statement}
+use Rattle.report_text.proofs.put_refined.Tie as tie
+
+-- what is known of the arguments
+call : (c : tie.After-shared-slice-known2)
+    → Call (c .before .before .before .args .n) (now (c .before .before .before .args .identifiers)) (now (c .before .before .before .args .stated))
+call c = record {
+  stated-so = c .before .before .before .pre;
+  identifiers-small = λ k. omega (arith, c .before .shared-slice-known .given k);
+  sets-small = λ k. omega (arith, c .shared-slice-known2 .given k);
+}
+
+slice-aggregate-refine : tie.Need-slice-aggregate-refine
+slice-aggregate-refine c = search needs
+
+slice-aggregate-refine-2 : tie.Need-slice-aggregate-refine-2
+slice-aggregate-refine-2 c = search needs
+
+refine-requires : tie.Need-refine-requires
+refine-requires c κs = search needs
+
+enum-known-verdict : tie.Need-enum-known-verdict
+enum-known-verdict c = search needs
+
+put-accepted-requires : tie.Need-put-accepted-requires
+put-accepted-requires c κs = search needs
+
+slice-aggregate-network : tie.Need-slice-aggregate-network
+slice-aggregate-network c = search needs
+
+slice-aggregate-network-2 : tie.Need-slice-aggregate-network-2
+slice-aggregate-network-2 c = search needs
+
+network-requires : tie.Need-network-requires
+network-requires c κs = search needs
+
+put-pairs-requires : tie.Need-put-pairs-requires
+put-pairs-requires c κs = network-paired (call (c .before .before .before .before .before .before .before .before .before .before .before .before .before .before .before .before)) (accepted-network (call (c .before .before .before .before .before .before .before .before .before .before .before .before .before .before .before .before)) (c .before .before .before .before .before .before .before .before .before .before .before .before .before .refine .ensures) (c .before .before .before .before .before .before .before .before .before .verdict .given .1) (c .network .ensures))
+
+enum-known-verdict-2 : tie.Need-enum-known-verdict-2
+enum-known-verdict-2 c = search needs
+
+put-contradiction-requires : tie.Need-put-contradiction-requires
+put-contradiction-requires c κs = search needs
+
+enum-told : tie.Need-enum-told
+enum-told c = search needs
+
+put-refusal-requires : tie.Need-put-refusal-requires
+put-refusal-requires c κs = search needs
+
+enum-told-2 : tie.Need-enum-told-2
+enum-told-2 c = search needs
+
+put-refusal-requires-2 : tie.Need-put-refusal-requires-2
+put-refusal-requires-2 c κs = search needs
+
+same-length : tie.Need-same-length
+same-length c = search needs
+
+returns : tie.Need-returns
+returns c = accepted-reports (call (c .before .before .before .before .before .before .before .before .before .before .before .before .before .before .before .before .before .before .before)) (accepted-network (call (c .before .before .before .before .before .before .before .before .before .before .before .before .before .before .before .before .before .before .before)) (c .before .before .before .before .before .before .before .before .before .before .before .before .before .before .before .before .refine .ensures) (c .before .before .before .before .before .before .before .before .before .before .before .before .verdict .given .1) (c .before .before .before .network .ensures)) (c .before .before .before .before .before .before .before .before .before .put-accepted .ensures) (c .before .before .put-pairs .ensures)
+
+same-length-2 : tie.Need-same-length-2
+same-length-2 c = search needs
+
+returns-2 : tie.Need-returns-2
+returns-2 c = contradiction-reports (call (c .before .before .before .before .before .before .before .before .before .before .before .before)) (c .before .before .before .before .before .before .before .before .before .refine .ensures) (c .before .before .before .before .before .verdict2 .given .1) (c .before .before .put-contradiction .ensures)
+
+same-length-3 : tie.Need-same-length-3
+same-length-3 c = search needs
+
+returns-3 : tie.Need-returns-3
+returns-3 c = refused-reports (call (c .before .before .before .before .before .before .before .before .before .before .before)) (c .before .before .before .before .before .before .before .before .refine .ensures) (c .before .before .before .before .enum-told .given .1) (λ e. omega arith) (c .before .before .put-refusal .ensures)
+
+same-length-4 : tie.Need-same-length-4
+same-length-4 c = search needs
+
+returns-4 : tie.Need-returns-4
+returns-4 c = refused-reports (call (c .before .before .before .before .before .before .before .before .before .before .before)) (c .before .before .before .before .before .before .before .before .refine .ensures) (c .before .before .before .before .enum-told2 .given .1) (λ e. omega arith) (c .before .before .put-refusal2 .ensures)
+
+pub put-refined-spec : {M : Type 1} → statement M
+put-refined-spec =
+    tie.close
+    (tie.spec
+    slice-aggregate-refine
+    slice-aggregate-refine-2
+    refine-requires
+    enum-known-verdict
+    put-accepted-requires
+    slice-aggregate-network
+    slice-aggregate-network-2
+    network-requires
+    put-pairs-requires
+    enum-known-verdict-2
+    put-contradiction-requires
+    enum-told
+    put-refusal-requires
+    enum-told-2
+    put-refusal-requires-2
+    same-length
+    returns
+    same-length-2
+    returns-2
+    same-length-3
+    returns-3
+    same-length-4
+    returns-4)

@@ -1,0 +1,4 @@
+pub mod Class
+pub mod Words
+pub mod Report
+pub mod Inner

@@ -1,0 +1,81 @@
+// The report of a scene as text: a line for each pair of regions, or one line for a refusal.
+mod lines;
+
+use lines::put_accepted;
+use lines::put_contradiction;
+use lines::put_pairs;
+use lines::put_refusal;
+use network::Verdict;
+use relation::RelationSet;
+ghost use mathlib.Core.Path.{_≡_};
+ghost use Rattle.relation.specs.Sets.{size};
+ghost use Rattle.refinement.specs.Refine.{refine};
+ghost use Rattle.report_text.specs.Class.{classOf};
+ghost use Rattle.report_text.specs.Report.{refinedReport, Reported};
+ghost use Rattle.report_text.specs.Inner.{Stated, Reports};
+
+// The class of a pair: O where one relation was stated, D where one is left of more, E where fewer are left, S where all
+// that were stated are left, U where nothing is known.
+pub fn class_of(stated: RelationSet, refined: RelationSet) -> u8
+    ensures { λ r. ⌜ r ≡ classOf (size (stated .0)) (size (refined .0)) ⌝ }
+{
+    let before = stated.size();
+    let after = refined.size();
+    if before == 1 {
+        return b'O';
+    }
+    if after == 1 {
+        return b'D';
+    }
+    if after < before {
+        return b'E';
+    }
+    if after < 8 {
+        return b'S';
+    }
+    b'U'
+}
+
+// The report of n regions with the cells that were stated of them.
+fn put_refined(buffer: &mut [u8], n: usize, identifiers: &[u32], stated: &[u8]) -> usize
+    requires { ⌜ Stated n (now stated) ⌝ }
+    ensures { λ r. ⌜ Reports (refinedReport n (now (identifiers .entry)) (now (stated .entry)) (refine n (now (stated .entry)))) (now (buffer .entry)) (now (buffer .exit)) r ⌝ }
+{
+    let mut first = [0u8; 4096];
+    let mut second = [0u8; 4096];
+    let verdict = network::refine(n, stated, &mut first, &mut second);
+    match verdict {
+        Verdict::Accepted {
+            regions: _,
+            rounds,
+            area: _,
+        } => {
+            let next = put_accepted(buffer, n, rounds);
+            put_pairs(
+                buffer,
+                next,
+                n,
+                identifiers,
+                stated,
+                network::network(&first, &second, verdict),
+            )
+        }
+        Verdict::Refused(contradiction, _) => put_contradiction(buffer, identifiers, contradiction),
+        Verdict::OutOfRange => put_refusal(buffer, 1, 0, 0, 0),
+        Verdict::WrongLength => put_refusal(buffer, 2, 0, 0, 0),
+    }
+}
+
+// The whole report of a scene, from the beginning of a buffer on that has room for every report; the number of its bytes.
+pub fn report(scene: &[u8], buffer: &mut [u8; 131072]) -> usize
+    ensures { λ r. ⌜ Reported (now (scene .entry)) (now (buffer .entry)) (now (buffer .exit)) r ⌝ }
+{
+    let mut identifiers = [0u32; 64];
+    let mut stated = [0u8; 4096];
+    let numbers = numbers::of_reading(scene::read(scene, &mut identifiers, &mut stated));
+    if numbers.number == 0 {
+        let n = numbers.count;
+        return put_refined(buffer, n, &identifiers, &stated[..n * n]);
+    }
+    put_refusal(buffer, numbers.number as usize, numbers.first, 0, 0)
+}
