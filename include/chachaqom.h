@@ -1,0 +1,217 @@
+/*
+ * chachaqom.h: the calls of the region checker Chachaqom for a host in C or C++.
+ *
+ * A scene is a file that declares regions by identifier and states which of eight relations may
+ * hold between two of them. chachaqom_read reads a scene into a matrix of relation sets, one cell
+ * for each ordered pair of regions. chachaqom_refine removes from such a matrix what cannot hold,
+ * or refuses it and names the region, pair or triple at which nothing is left.
+ *
+ *     uint8_t identifiers[CHACHAQOM_IDENTIFIERS_LENGTH], cells[CHACHAQOM_CELLS_LENGTH];
+ *     uint8_t first[CHACHAQOM_CELLS_LENGTH], second[CHACHAQOM_CELLS_LENGTH];
+ *     uint8_t answer[CHACHAQOM_ANSWER_LENGTH];
+ *
+ *     if (chachaqom_read(scene, scene_length, identifiers, sizeof identifiers, cells, sizeof cells,
+ *                        answer, sizeof answer) == CHACHAQOM_ACCEPTED) {
+ *         size_t n = chachaqom_number(answer, CHACHAQOM_ANSWER_COUNT);
+ *         if (chachaqom_refine(n, cells, n * n, first, n * n, second, n * n,
+ *                              answer, sizeof answer) == CHACHAQOM_ACCEPTED)
+ *             use(first);   // the set of region i towards region j is first[i * n + j]
+ *     }
+ *
+ * Sets. A set of relations is one byte, the sum of the values CHACHAQOM_DISJOINT to
+ * CHACHAQOM_OVERLAP of its members. CHACHAQOM_UNIVERSAL says nothing about a pair;
+ * CHACHAQOM_EMPTY leaves nothing.
+ *
+ * Places. A region has an identifier, a number that an author chose, and a place, its position
+ * from 0 in the order of declaration. Rows, columns and named regions are places; identifiers[i]
+ * is the identifier of the region at place i. The two are never used one for the other.
+ *
+ * Numbers. What is wider than a byte crosses in bytes, big-endian: an identifier in four bytes, an
+ * answer as five numbers of four bytes each. chachaqom_number takes one of them out.
+ *
+ * Answers. The five numbers of an answer are
+ *     0  CHACHAQOM_ANSWER_NUMBER   0 for acceptance, else the refusal number; also returned
+ *     1  CHACHAQOM_ANSWER_PLACES   the first place that the refusal names; 0 where there is none
+ *     2                            the second place; 0 where there is none
+ *     3                            the third place; 0 where there is none
+ *     4  CHACHAQOM_ANSWER_COUNT    a count; which one, the call says
+ *
+ * Areas. Each array is lent for the call as a pointer and a length in bytes. A null pointer with
+ * length 0 is an empty array. Arrays marked const are never written. No byte outside of an array
+ * is read or written, and bytes past those that a call is said to fill stay as they were. No call
+ * allocates, keeps a pointer, or uses anything but its arguments: calls on different areas may run
+ * side by side. What happens when two arrays of one call overlap is not promised.
+ */
+#ifndef CHACHAQOM_H
+#define CHACHAQOM_H
+
+#include <stddef.h>
+#include <stdint.h>
+
+#ifdef __cplusplus
+extern "C" {
+#endif
+
+/* The eight relations of one region towards another, and two sets with names of their own. */
+enum {
+    CHACHAQOM_EMPTY = 0,       /* no relation is left */
+    CHACHAQOM_DISJOINT = 1,    /* no point in common */
+    CHACHAQOM_MEET = 2,        /* only boundary in common */
+    CHACHAQOM_EQUAL = 4,       /* the same region */
+    CHACHAQOM_INSIDE = 8,      /* within the other, away from its boundary */
+    CHACHAQOM_COVERED_BY = 16, /* within the other, touching its boundary */
+    CHACHAQOM_CONTAINS = 32,   /* the converse of inside */
+    CHACHAQOM_COVERS = 64,     /* the converse of coveredBy */
+    CHACHAQOM_OVERLAP = 128,   /* interiors in common, neither within the other */
+    CHACHAQOM_UNIVERSAL = 255  /* all eight: nothing is known */
+};
+
+/* The kinds of record in a scene: the first byte of each. */
+enum {
+    CHACHAQOM_KIND_REGION = 1,    /* then the identifier, not 0 */
+    CHACHAQOM_KIND_STATEMENT = 2, /* then identifier A, identifier B, the set of A towards B */
+    CHACHAQOM_KIND_END = 3        /* then nothing; the last byte of the scene */
+};
+
+/* Limits, and lengths in bytes. */
+enum {
+    CHACHAQOM_REGIONS_LIMIT = 64,          /* the largest n */
+    CHACHAQOM_SCENE_LIMIT = 32768,         /* the longest scene that is looked at */
+    CHACHAQOM_NUMBER_LENGTH = 4,           /* an identifier, or a number of an answer */
+    CHACHAQOM_IDENTIFIERS_LENGTH = 64 * 4, /* the identifiers of chachaqom_read, exactly */
+    CHACHAQOM_CELLS_LENGTH = 64 * 64,      /* the cells of chachaqom_read, exactly */
+    CHACHAQOM_ANSWER_LENGTH = 5 * 4,       /* an answer, exactly */
+    CHACHAQOM_REGION_LENGTH = 5,           /* a region record with its kind */
+    CHACHAQOM_STATEMENT_LENGTH = 10,       /* a statement record with its kind */
+    CHACHAQOM_END_LENGTH = 1               /* an end record, which is its kind */
+};
+
+/* Which number of an answer is which, for chachaqom_number. */
+enum {
+    CHACHAQOM_ANSWER_NUMBER = 0,
+    CHACHAQOM_ANSWER_PLACES = 1, /* and the two after it */
+    CHACHAQOM_ANSWER_COUNT = 4
+};
+
+/*
+ * The refusal numbers. For a scene, "the record" is the byte at which the refused record starts,
+ * counted from 0; for a matrix, places are those of regions.
+ */
+enum {
+    CHACHAQOM_ACCEPTED = 0,
+    CHACHAQOM_OUT_OF_RANGE = 1,     /* matrix: n is 0 or over 64, names 0;
+                                       scene: ends with no region, names the End record */
+    CHACHAQOM_WRONG_LENGTH = 2,     /* the length of an array is wrong; names 0 */
+    CHACHAQOM_TOO_LONG = 3,         /* the scene is over 32,768 bytes; names 32,768 */
+    CHACHAQOM_CUT_SHORT = 4,        /* the scene stops within a record, which is named, or where a
+                                       record should start; then the scene's length is named */
+    CHACHAQOM_UNKNOWN_KIND = 5,     /* the kind is none of the three; names the record */
+    CHACHAQOM_IDENTIFIER_ZERO = 6,  /* identifier 0 is declared; names the record */
+    CHACHAQOM_IDENTIFIER_TWICE = 7, /* the identifier is declared already; names the record */
+    CHACHAQOM_TOO_MANY_REGIONS = 8, /* a 65th region, its identifier new; names the record */
+    CHACHAQOM_NOT_DECLARED = 9,     /* a statement about an identifier not declared before it, 0
+                                       included; names the record */
+    CHACHAQOM_SET_EMPTY = 10,       /* a statement of the empty set; names the record */
+    CHACHAQOM_AFTER_END = 11,       /* bytes after the End record; names the first of them */
+    CHACHAQOM_NODE = 21,            /* a region cannot equal itself; names its place */
+    CHACHAQOM_ARC = 22,             /* what is stated of a pair, both ways, leaves nothing; names
+                                       the two places, the lower one first */
+    CHACHAQOM_PATH = 23             /* the sets ran out along a triple; names i, k, j: going
+                                       through k left nothing of i towards j. The three differ */
+};
+
+/*
+ * Takes number k, from 0 to 4, out of an answer. It also takes identifier k, from 0 to 63, out of
+ * the identifiers that chachaqom_read fills.
+ */
+static inline uint32_t chachaqom_number(const uint8_t *numbers, size_t k)
+{
+    const uint8_t *bytes = numbers + k * CHACHAQOM_NUMBER_LENGTH;
+
+    return (uint32_t)bytes[0] << 24 | (uint32_t)bytes[1] << 16 | (uint32_t)bytes[2] << 8
+           | (uint32_t)bytes[3];
+}
+
+/*
+ * Refines a matrix: each set of the diagonal is intersected with equal (the node rule), each cell
+ * with the converse of its opposite (the arc rule), and then, in rounds, with the compositions
+ * through every third region, until a round changes nothing.
+ *
+ *   n              the number of regions, 1 to 64
+ *   cells          the matrix row by row: cells[i * n + j] is the set of region i towards region j
+ *   cells_length   exactly n * n
+ *   first          a work area
+ *   first_length   at least n * n
+ *   second         a work area
+ *   second_length  at least n * n
+ *   answer         receives the answer
+ *   answer_length  exactly CHACHAQOM_ANSWER_LENGTH
+ *
+ * Checked in this order, the first that fails is answered:
+ *   2   answer_length is wrong             nothing at all is written, not even the answer
+ *   1   n is 0 or over 64                  both work areas stay as they were
+ *   2   another length is wrong            both work areas stay as they were
+ *   21  a region cannot equal itself       names the least such place i
+ *   22  a pair contradicts itself          names i, j: the first empty cell in row order, i < j
+ *   23  a triple leaves nothing            names i, k, j: the first empty cell (i, j) of the round
+ *                                          in row order, and the least k at which it ran empty
+ * 21, 22 and 23 leave the first n * n bytes of both work areas 0.
+ *
+ * Acceptance (0) leaves the refined network, row by row as cells, in the first n * n bytes of both
+ * work areas. It has no empty set, equal throughout on the diagonal, and converse sets in opposite
+ * cells. It does not promise that an arrangement of regions in the plane exists.
+ *
+ * Bytes of a work area from n * n on are never written. The answer's count is the number of rounds
+ * that changed something; for 23 the number of the refusing round, from 1; else 0.
+ *
+ * Returns the answer's number.
+ */
+uint32_t chachaqom_refine(size_t n, const uint8_t *cells, size_t cells_length,
+                          uint8_t *first, size_t first_length,
+                          uint8_t *second, size_t second_length,
+                          uint8_t *answer, size_t answer_length);
+
+/*
+ * Reads a scene. A cell starts at CHACHAQOM_UNIVERSAL; a statement of A towards B is intersected
+ * into the cell of A's row and B's column only. Statements that clash may leave a cell empty: the
+ * scene is accepted all the same, and refining it is refused.
+ *
+ *   scene               the bytes of the scene file
+ *   scene_length        any; over 32,768 is refused
+ *   identifiers         receives identifier i, big-endian, in the four bytes from 4 * i
+ *   identifiers_length  exactly CHACHAQOM_IDENTIFIERS_LENGTH
+ *   cells               receives the matrix, cell (i, j) at i * n + j
+ *   cells_length        exactly CHACHAQOM_CELLS_LENGTH
+ *   answer              receives the answer
+ *   answer_length       exactly CHACHAQOM_ANSWER_LENGTH
+ *
+ * Checked in this order, the first that fails is answered:
+ *   2   answer_length is wrong          nothing at all is written, not even the answer
+ *   2   another length is wrong         identifiers and cells stay as they were
+ *   3   the scene is over 32,768 bytes
+ * then record by record:
+ *   4   no byte where a record should start
+ *   5   unknown kind
+ *   4   the record's body is cut short
+ *   6, 7, 8   of a region: identifier 0, declared twice, 65th region
+ *   9, 10     of a statement: A not declared, B not declared, set empty
+ *   1, 11     of an end: no region was declared, bytes are left over
+ * What each of them names, the list of refusal numbers says. All but 2 leave identifiers and cells
+ * 0 throughout.
+ *
+ * Acceptance (0) leaves the identifiers of the n regions in the first 4 * n bytes of identifiers,
+ * the matrix in the first n * n bytes of cells, and 0 in the rest of both. The answer's count is n,
+ * from 1 to 64; for a refusal it is 0.
+ *
+ * Returns the answer's number.
+ */
+uint32_t chachaqom_read(const uint8_t *scene, size_t scene_length,
+                        uint8_t *identifiers, size_t identifiers_length,
+                        uint8_t *cells, size_t cells_length,
+                        uint8_t *answer, size_t answer_length);
+
+#ifdef __cplusplus
+}
+#endif
+
+#endif

@@ -1,0 +1,17 @@
+/* installed.c: a host of a few lines, built against an installed copy by way of pkg-config. */
+#include <chachaqom.h>
+
+#include <stdio.h>
+
+int main(void)
+{
+    const uint8_t cells[4] = { CHACHAQOM_UNIVERSAL, CHACHAQOM_INSIDE, CHACHAQOM_UNIVERSAL,
+                               CHACHAQOM_UNIVERSAL };
+    uint8_t first[4], second[4], answer[CHACHAQOM_ANSWER_LENGTH];
+    uint32_t number = chachaqom_refine(2, cells, sizeof cells, first, sizeof first,
+                                       second, sizeof second, answer, sizeof answer);
+    int right = number == CHACHAQOM_ACCEPTED && first[2] == CHACHAQOM_CONTAINS;
+
+    printf("installed: %s\n", right ? "the converse of inside is contains" : "wrong");
+    return right ? 0 : 1;
+}

@@ -1,0 +1,118 @@
+#!/bin/sh
+# run.sh: everything that is tested from C, one line for each part; ends at the first that fails.
+#
+#     tests/run.sh [ARCHIVE]     ARCHIVE: another archive than that of `make library`
+# RUN, MAKE and the compiler's flags are lists of words.
+# shellcheck disable=SC2086
+set -u
+cd "$(dirname "$0")/.." || exit 1
+. tests/toolchain.sh
+
+BUILD=target/c
+WORK=$BUILD/run
+MAKE="make -s ${1:+ARCHIVE=$1}"
+rm -rf $BUILD
+mkdir -p "$WORK" || exit 1
+
+# part NAME COMMAND..: runs a part; its last line is its summary.
+part() {
+    part_name=$1
+    shift
+    if "$@" > "$WORK/log" 2>&1; then
+        echo "$part_name: $(tail -n 1 "$WORK/log")"
+    else
+        cat "$WORK/log"
+        echo "$part_name: FAILED"
+        exit 1
+    fi
+}
+
+# The programs are made anew, for the archive of this run; the parts below run them.
+build() {
+    $MAKE $BUILD/host $BUILD/host-in-c++ $BUILD/compare $BUILD/editor &&
+        { [ -n "$RUN" ] || $MAKE sanitized; } &&
+        echo "programs made"
+}
+
+# same EXPECTED FOUND: two files agree, else how they differ.
+same() {
+    cmp -s "$1" "$2" && return
+    diff "$1" "$2" | head -n 10
+    echo "$1 and $2 differ"
+    return 1
+}
+
+# The example host on one scene: what it prints, and its exit status as a last line.
+edit_scene() {
+    $RUN $BUILD/editor "$1" > "$WORK/edited.txt"
+    echo "exit status $?" >> "$WORK/edited.txt"
+    same "tests/expected/$2.txt" "$WORK/edited.txt"
+}
+
+editor() {
+    edited=0
+    for text in examples/*.txt tests/scenes/*.txt; do
+        name=$(basename "$text" .txt)
+        tools/scene make "$text" > "$WORK/$name.scene" && edit_scene "$WORK/$name.scene" "$name" ||
+            return 1
+        edited=$((edited + 1))
+    done
+    head -c 32769 /dev/zero > "$WORK/too_long.scene"
+    edit_scene "$WORK/too_long.scene" too_long || return 1
+    $RUN $BUILD/editor > /dev/null 2>&1
+    [ $? -eq 2 ] || { echo "no usage"; return 1; }
+    $RUN $BUILD/editor "$WORK/no_such.scene" > /dev/null 2>&1
+    [ $? -eq 2 ] || { echo "a missing file was read"; return 1; }
+    echo "$((edited + 1)) scenes shown as expected"
+}
+
+# A scene shown as text and made again is the same scene; damaged ones too.
+round_trip() {
+    tools/scene show "$1" > "$WORK/shown.txt"
+    [ $? -eq "$2" ] || { echo "$1: shown with another exit status than $2"; return 1; }
+    tools/scene make "$WORK/shown.txt" > "$WORK/again.scene" && same "$1" "$WORK/again.scene"
+}
+
+scenes() {
+    for scene in examples/*.scene; do
+        tools/scene make "${scene%.scene}.txt" > "$WORK/made.scene" &&
+            same "$scene" "$WORK/made.scene" && round_trip "$scene" 0 || return 1
+    done
+    tripped=0
+    for length in 0 1 4 5 33 39 40 41 119 120; do
+        head -c $length examples/nested.scene > "$WORK/damaged.scene"
+        round_trip "$WORK/damaged.scene" 1 || return 1
+        tripped=$((tripped + 1))
+    done
+    printf '\004\000' | cat examples/sector.scene - > "$WORK/damaged.scene"
+    round_trip "$WORK/damaged.scene" 1 || return 1
+    printf 'region 7\n7 besides 7\n' > "$WORK/wrong.txt"
+    if tools/scene make "$WORK/wrong.txt" > /dev/null 2> "$WORK/wrong.log" ||
+        ! grep -q 'line 2' "$WORK/wrong.log"; then
+        echo "a wrong text was made, or its line not named"
+        return 1
+    fi
+    echo "examples made and shown alike, $((tripped + 1)) damaged scenes too"
+}
+
+# A host against an installed copy, found by pkg-config.
+installed() {
+    $MAKE install PREFIX="$PWD/$WORK/prefix" || return 1
+    flags=$(PKG_CONFIG_PATH=$WORK/prefix/lib/pkgconfig pkg-config --cflags --libs chachaqom) ||
+        return 1
+    $CC -std=c99 -Wall -Wextra -Wpedantic -Werror tests/installed.c $flags -o "$WORK/installed" &&
+        $RUN "$WORK/installed"
+}
+
+part "build" build
+part "host in C" $RUN $BUILD/host
+part "host in C++" $RUN $BUILD/host-in-c++
+part "compare" $RUN $BUILD/compare
+part "faults" $RUN $BUILD/compare faults
+if [ -z "$RUN" ]; then
+    part "host under valgrind" valgrind -q --error-exitcode=9 $BUILD/host
+    part "compare under sanitizers" $BUILD/compare-sanitized 7 4000
+fi
+part "installed copy" installed
+part "editor" editor
+part "scene tool" scenes
