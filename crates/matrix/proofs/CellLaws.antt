@@ -13,7 +13,7 @@ use borrow.Author.Tests.{eqb-true, eqb-false, eq-eqb, not-true, not-false}
 use Rattle.region.specs.Least.{least}
 use Rattle.region.proofs.Splits.{split-lt}
 use Rattle.region.proofs.LeastLaws.{least-is}
-use Rattle.matrix.specs.Cells.{cell, row, column, listFrom, grid, firstEmpty, firstChange}
+use Rattle.matrix.specs.Cells.{cell, row, column, listFrom, grid, firstEmpty, firstChange, emptyPlace}
 
 -- ---- places, rows and columns
 
@@ -156,3 +156,8 @@ none-changed n a b h =
     split-lt (firstChange n a b) (n * n)
     (λ l. let z = some-change n a b l in absurd (z .differs (h (z .first) (z .second) (z .first-lt) (z .second-lt))))
     (λ l. l)
+
+-- of just the cells of n regions
+pub empty-place : (n : ℕ) (m : List ℕ) → length m ≡ n * n → emptyPlace m ≡ firstEmpty n m
+unfolding emptyPlace firstEmpty
+empty-place n m e = rw e

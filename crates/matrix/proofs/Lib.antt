@@ -1,3 +1,5 @@
 pub mod CellLaws
 pub mod LaidLaws
 pub mod Sums
+pub mod Filling
+pub mod Unique

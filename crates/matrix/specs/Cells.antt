@@ -3,7 +3,7 @@ use Prim.Native.Nat.{ℕ, zero, suc, _+_, _*_, _/_, _%_}
 use mathlib.Core.Bool.{not}
 use mathlib.Core.List.{List, [], _∷_}
 use lib.Dec.{eqb}
-use lib.ListN.{getD}
+use lib.ListN.{length, getD}
 use Rattle.region.specs.Least.{least}
 
 -- cell (i, j) of the matrix m
@@ -33,3 +33,7 @@ firstEmpty n m = least (n * n) (λ p. eqb (getD m p 0) 0)
 -- the first place where two matrices differ; n * n if there is none
 unfoldable pub firstChange : ℕ → List ℕ → List ℕ → ℕ
 firstChange n new old = least (n * n) (λ p. not (eqb (getD new p 0) (getD old p 0)))
+
+-- the first empty entry of a list of cells, as its place; the length if there is none
+unfoldable pub emptyPlace : List ℕ → ℕ
+emptyPlace cells = least (length cells) (λ p. eqb (getD cells p 0) 0)

@@ -1,4 +1,3 @@
-pub mod Filling
 pub mod Running
 pub mod Handing
 pub mod Prepared

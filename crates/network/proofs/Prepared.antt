@@ -12,7 +12,8 @@ use Rattle.region.proofs.Splits.{by-test}
 use Rattle.relation.specs.Relations.{equal}
 use Rattle.relation.specs.Sets.{only, intersect}
 use Rattle.relation.specs.Converse.{converse}
-use Rattle.matrix.specs.Cells.{cell, row, column, firstEmpty}
+use Rattle.matrix.specs.Cells.{cell, row, column, firstEmpty, emptyPlace}
+use Rattle.matrix.proofs.CellLaws.{empty-place}
 use Rattle.refinement.specs.Outcome.{refused}
 use Rattle.refinement.specs.Node.{nodeCell, node, emptyRegion}
 use Rattle.refinement.specs.Arc.{arcCell, arc}
@@ -57,9 +58,9 @@ module _ (n : ℕ) (cells first : List ℕ) (i : ℕ) (e : i ≡ emptyRegion n (
   unfolding preparation
   prepared-region h = record { found = rw (← e, lt-ltb i n h); inFirst = rw (← e, lt-ltb i n h) }
 
-  module _ (h : n ≤ i) (area : List ℕ) (f : area ≡ arc n (node n cells)) (p : ℕ) (g : p ≡ firstEmpty n area) where
+  module _ (h : n ≤ i) (area : List ℕ) (f : area ≡ arc n (node n cells)) (p : ℕ) (g : p ≡ emptyPlace area) where
     first-empty : p ≡ firstEmpty n (arc n (node n cells))
-    first-empty = g ∙ ap (firstEmpty n) f
+    first-empty = g ∙ ap emptyPlace f ∙ empty-place n (arc n (node n cells)) (length-arc n (node n cells))
 
     pub prepared-pair : p < n * n → Prepares n cells first area (Pair (place (row n p)) (place (column n p)))
     unfolding preparation

@@ -6,9 +6,10 @@ use Prim.Native.Nat.{ℕ, _*_, _≤_, _<_}
 use borrow.Author.Tests.{lt-ltb, le-ltb, le-leb, lt-leb}
 use lib.ListN.{getD}
 use Rattle.region.specs.Lookup.{place}
-use Rattle.matrix.specs.Cells.{row, column, firstEmpty, firstChange}
+use Rattle.matrix.specs.Cells.{row, column, firstEmpty, firstChange, emptyPlace}
+use Rattle.matrix.proofs.CellLaws.{empty-place}
 use Rattle.refinement.specs.Round.{through, round, ranOut}
-use Rattle.refinement.proofs.Stages.{round-place}
+use Rattle.refinement.proofs.Stages.{round-place, length-round}
 use Rattle.network.specs.declared.round.Step.{Step}
 use Rattle.network.specs.declared.round.Step.the-variants.{Empty, Same, Changed}
 use Rattle.network.specs.Steps.{Rounds, Turns, stepOf}
@@ -17,9 +18,9 @@ use Rattle.network.specs.Steps.{Rounds, Turns, stepOf}
 pub round-at : (n : ℕ) (old : List ℕ) (p x : ℕ) → p < n * n → x ≡ through n old (row n p) (column n p) n → x ≡ getD (round n old) p 0
 round-at n old p x h e = e ∙ sym (round-place n old p h)
 
-module _ (n : ℕ) (old new : List ℕ) (made : new ≡ round n old) (p : ℕ) (e : p ≡ firstEmpty n new) where
+module _ (n : ℕ) (old new : List ℕ) (made : new ≡ round n old) (p : ℕ) (e : p ≡ emptyPlace new) where
   first-empty : p ≡ firstEmpty n (round n old)
-  first-empty = e ∙ ap (firstEmpty n) made
+  first-empty = e ∙ ap emptyPlace made ∙ empty-place n (round n old) (length-round n old)
 
   pub rounds-empty : p < n * n → (k : ℕ) → k ≡ ranOut n old (row n p) (column n p)
       → Rounds n old new (Empty (place (row n p)) (place k) (place (column n p)))

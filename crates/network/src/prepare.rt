@@ -1,6 +1,5 @@
 // What comes before the rounds: the node rule and the arc rule. Only the first area is written.
 use crate::cells::at;
-use crate::cells::first_empty;
 use region::Place;
 use relation::RelationSet;
 ghost use mathlib.Core.Path.{_≡_};
@@ -76,7 +75,7 @@ pub(crate) fn prepare(n: usize, cells: &[u8], first: &mut [u8]) -> Preparation
         return Preparation::Region(Place(i));
     }
     arc_stage(n, cells, first);
-    let place = first_empty(n, first);
+    let place = matrix::first_empty(first);
     if place < first.len() {
         return Preparation::Pair(Place(place / n), Place(place % n));
     }

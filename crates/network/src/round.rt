@@ -1,7 +1,6 @@
 // One round: every cell of the new matrix is made from the old one, and what that came to.
 use crate::cells::at;
 use crate::cells::first_change;
-use crate::cells::first_empty;
 use region::Place;
 use relation::RelationSet;
 ghost use mathlib.Core.Path.{_≡_};
@@ -78,7 +77,7 @@ fn one_round(entries: &[u8; 64], n: usize, old: &[u8], new: &mut [u8]) -> Step
     ensures { λ r. ⌜ Rounds n (now (old .entry)) (now (new .exit)) r ⌝ }
 {
     round(entries, n, old, new);
-    let place = first_empty(n, new);
+    let place = matrix::first_empty(new);
     if place < new.len() {
         let i = place / n;
         let j = place % n;

@@ -2,7 +2,6 @@
 use crate::Area;
 use crate::Contradiction;
 use crate::Verdict;
-use crate::cells::clear;
 use crate::prepare::Preparation;
 use crate::prepare::prepare;
 use crate::round::Step;
@@ -25,8 +24,8 @@ fn refused(
 ) -> Verdict
     ensures { λ r. ⌜ Clears (now (first .entry)) (now (second .entry)) (now (first .exit)) (now (second .exit)) contradiction count r ⌝ }
 {
-    clear(first);
-    clear(second);
+    matrix::fill(first, 0);
+    matrix::fill(second, 0);
     Verdict::Refused(contradiction, count)
 }
 

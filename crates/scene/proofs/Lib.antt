@@ -1,5 +1,4 @@
 pub mod Padded
-pub mod Filling
 pub mod Packing
 pub mod Judging
 pub mod Numbered

@@ -11,7 +11,7 @@ use Rattle.matrix.proofs.CellLaws.{length-grid, at-place, row-lt, column-lt, pl
 use Rattle.matrix.proofs.LaidLaws.{getD-laid-past}
 use Rattle.scene.specs.Format.{mostRegions, lentCells}
 use Rattle.scene.specs.Inner.{Rows, packed}
-use Rattle.scene.proofs.Filling.{Filling, filling-more}
+use Rattle.matrix.proofs.Filling.{Filling, filling-more}
 use Rattle.scene.proofs.Padded.{length-padded, padded-in, padded-past}
 
 -- n rows of n have no more cells than 64 rows of 64

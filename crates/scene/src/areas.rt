@@ -1,4 +1,4 @@
-// The two lent areas: cleared, filled with one set, and packed from rows of 64 cells into rows of n.
+// The two lent areas: identifiers cleared, cells packed from rows of 64 into rows of n.
 use crate::format::MOST_REGIONS;
 ghost use mathlib.Core.Path.{_≡_};
 ghost use lib.ListN.{length, getD, replicate};
@@ -10,16 +10,6 @@ pub(crate) fn clear_identifiers(identifiers: &mut [u32])
     let mut at: usize = 0;
     while at < identifiers.len() {
         identifiers[at] = 0;
-        at += 1;
-    }
-}
-
-pub(crate) fn fill_cells(cells: &mut [u8], entry: u8)
-    ensures { λ _. ⌜ now (cells .exit) ≡ replicate (length (now (cells .entry))) entry ⌝ }
-{
-    let mut at: usize = 0;
-    while at < cells.len() {
-        cells[at] = entry;
         at += 1;
     }
 }

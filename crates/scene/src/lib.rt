@@ -1,12 +1,11 @@
 // Scene files: the reader, and the bytes of a refused record.
 mod areas;
-mod format;
+pub mod format;
 mod record;
 mod records;
 mod span;
 
 use areas::clear_identifiers;
-use areas::fill_cells;
 use format::LENT_CELLS;
 use format::MOST_BYTES;
 use format::MOST_REGIONS;
@@ -74,7 +73,7 @@ pub fn read(scene: &[u8], identifiers: &mut [u32], cells: &mut [u8]) -> Reading
     }
     if MOST_BYTES < scene.len() {
         clear_identifiers(identifiers);
-        fill_cells(cells, 0);
+        matrix::fill(cells, 0);
         return Reading::TooLong;
     }
     read_records(scene, identifiers, cells)

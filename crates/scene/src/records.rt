@@ -1,7 +1,6 @@
 // The records of a scene, one after the other, into areas of the right lengths.
 use crate::Reading;
 use crate::areas::clear_identifiers;
-use crate::areas::fill_cells;
 use crate::areas::pack;
 use crate::format::MOST_REGIONS;
 use crate::format::REGION_BYTES;
@@ -32,7 +31,7 @@ pub(crate) fn read_records(scene: &[u8], identifiers: &mut [u32], cells: &mut [u
     ensures { λ r. ⌜ Reads (now (scene .entry)) (now (identifiers .entry)) (now (cells .entry)) (now (identifiers .exit)) (now (cells .exit)) r ⌝ }
 {
     clear_identifiers(identifiers);
-    fill_cells(cells, RelationSet::UNIVERSAL.0);
+    matrix::fill(cells, RelationSet::UNIVERSAL.0);
     let mut at: usize = 0;
     let mut count: usize = 0;
     loop {
@@ -52,7 +51,7 @@ pub(crate) fn read_records(scene: &[u8], identifiers: &mut [u32], cells: &mut [u
             }
             Record::Refused(refusal, place) => {
                 clear_identifiers(identifiers);
-                fill_cells(cells, 0);
+                matrix::fill(cells, 0);
                 return Reading::Refused(refusal, place);
             }
         }

@@ -13,8 +13,8 @@ returns-2 c = wrong-cells _ _ _ (c .before .if1 .left) (c .if2 .taken)
 clear-identifiers-requires : tie.Need-clear-identifiers-requires
 clear-identifiers-requires c κs = search needs
 
-fill-cells-requires : tie.Need-fill-cells-requires
-fill-cells-requires c κs = search needs
+fill-requires : tie.Need-fill-requires
+fill-requires c κs = search needs
 
 same-length : tie.Need-same-length
 same-length c = search needs
@@ -30,7 +30,7 @@ returns-3 c =
     let cells-so = over .before in
     let identifiers-so = cells-so .before in
     too-long _ _ _ _ _ (identifiers-so .if1 .left) (cells-so .if2 .left) (over .if3 .taken) (cleared .clear-identifiers .ensures)
-    (filled .fill-cells .ensures)
+    (filled .fill .ensures)
 
 read-records-requires : tie.Need-read-records-requires
 read-records-requires c κs = search needs
@@ -51,7 +51,7 @@ read-spec =
     returns
     returns-2
     clear-identifiers-requires
-    fill-cells-requires
+    fill-requires
     same-length
     same-length-2
     returns-3

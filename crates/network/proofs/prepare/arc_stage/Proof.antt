@@ -7,7 +7,7 @@ use lib.ListN.{length}
 use Rattle.matrix.proofs.CellLaws.{row-lt, column-lt}
 use Rattle.refinement.specs.Node.{node}
 use Rattle.refinement.specs.Arc.{arc}
-use Rattle.network.proofs.Filling.{Filling, filling-starts, filling-goes-on, filling-ends}
+use Rattle.matrix.proofs.Filling.{Filling, filling-begins, filling-more, filling-ends}
 use Rattle.refinement.proofs.Stages.{length-arc}
 use Rattle.network.proofs.Prepared.{arc-at}
 use Rattle.network.proofs.prepare.arc_stage.Statement.{statement}
@@ -24,7 +24,7 @@ fits : (c : tie.Start Inv-loop μ-loop)
 fits c = length-arc (c .args .n) (node (c .args .n) (c .args .cells .now)) ∙ sym (c .pre .1 .size)
 
 loop-holds : tie.Need-loop-holds Inv-loop μ-loop
-loop-holds c = filling-starts _ _ (fits (c .before .before))
+loop-holds c = filling-begins _ _
 
 div-arc-cell : tie.Need-div-arc-cell Inv-loop μ-loop
 div-arc-cell c = omega (arith, row-lt (c .before .before .before .before .args .n) (c .before .loop .place) (omega arith))
@@ -49,14 +49,14 @@ loop-less c = search needs
 loop-again : tie.Need-loop-again Inv-loop μ-loop
 loop-again c =
     let s = c .before .before .before .before .before in
-    filling-goes-on _ _ (fits s) _ _ (c .before .before .loop .inv) _ (c .before .loop-test .taken)
+    filling-more _ _ _ _ (fits s) (c .before .before .loop .inv) _ (c .before .loop-test .taken)
     (arc-at (s .args .n) (node (s .args .n) (s .args .cells .now)) (c .before .before .loop .place) _ (omega arith) (c .arc-cell .ensures))
 
 same-length : tie.Need-same-length Inv-loop μ-loop
-same-length c = c .before .loop .inv .same
+same-length c = c .before .loop .inv .long
 
 returns : tie.Need-returns Inv-loop μ-loop
-returns c = filling-ends _ _ (fits (c .before .before .before .before)) _ _ (c .before .loop .inv) (c .loop-test .left)
+returns c = filling-ends _ _ _ _ (fits (c .before .before .before .before)) (c .before .loop .inv) (c .loop-test .left)
 
 pub arc-stage-spec : {M : Type 1} → statement M
 arc-stage-spec =

@@ -6,7 +6,7 @@ use native.Mathlib.Omega.{arith}
 use lib.ListN.{length}
 use Rattle.matrix.proofs.CellLaws.{row-lt, column-lt}
 use Rattle.refinement.specs.Round.{round}
-use Rattle.network.proofs.Filling.{Filling, filling-starts, filling-goes-on, filling-ends}
+use Rattle.matrix.proofs.Filling.{Filling, filling-begins, filling-more, filling-ends}
 use Rattle.refinement.proofs.Stages.{length-round}
 use Rattle.network.proofs.Stepped.{round-at}
 use Rattle.network.proofs.round.round.Statement.{statement}
@@ -22,7 +22,7 @@ fits : (c : tie.Start Inv-loop μ-loop) → length (round (c .args .n) (c .args 
 fits c = length-round (c .args .n) (c .args .old .now) ∙ sym (c .pre .2 .size)
 
 loop-holds : tie.Need-loop-holds Inv-loop μ-loop
-loop-holds c = filling-starts _ _ (fits (c .before .before))
+loop-holds c = filling-begins _ _
 
 div-through-all : tie.Need-div-through-all Inv-loop μ-loop
 div-through-all c = omega (arith, row-lt (c .before .before .before .before .args .n) (c .before .loop .place) (omega arith))
@@ -51,14 +51,14 @@ loop-less c = search needs
 loop-again : tie.Need-loop-again Inv-loop μ-loop
 loop-again c =
     let s = c .before .before .before .before .before in
-    filling-goes-on _ _ (fits s) _ _ (c .before .before .loop .inv) _ (c .before .loop-test .taken)
+    filling-more _ _ _ _ (fits s) (c .before .before .loop .inv) _ (c .before .loop-test .taken)
     (round-at (s .args .n) (s .args .old .now) (c .before .before .loop .place) _ (omega arith) (c .through-all .ensures))
 
 same-length : tie.Need-same-length Inv-loop μ-loop
-same-length c = c .before .loop .inv .same
+same-length c = c .before .loop .inv .long
 
 returns : tie.Need-returns Inv-loop μ-loop
-returns c = filling-ends _ _ (fits (c .before .before .before .before)) _ _ (c .before .loop .inv) (c .loop-test .left)
+returns c = filling-ends _ _ _ _ (fits (c .before .before .before .before)) (c .before .loop .inv) (c .loop-test .left)
 
 pub round-spec : {M : Type 1} → statement M
 round-spec =

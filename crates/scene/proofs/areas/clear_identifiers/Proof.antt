@@ -2,7 +2,7 @@
 use Prim.Native.Nat.{_-_}
 use native.Mathlib.Omega.{arith}
 use lib.ListN.{length, replicate}
-use Rattle.scene.proofs.Filling.{Filling, filling-begins, same-entry-more, same-entry-ends}
+use Rattle.matrix.proofs.Filling.{Filling, filling-begins, same-entry-more, same-entry-ends}
 use borrow.Author.Needs.{needs}
 use Rattle.scene.proofs.areas.clear_identifiers.Statement.{statement}
 use Rattle.scene.proofs.areas.clear_identifiers.Tie as tie

@@ -4,7 +4,7 @@ use Prim.Native.Nat.{_-_}
 use native.Mathlib.Omega.{arith}
 use lib.ListN.{length}
 use Rattle.scene.specs.Inner.{packed}
-use Rattle.scene.proofs.Filling.{Filling, filling-begins, filling-ends}
+use Rattle.matrix.proofs.Filling.{Filling, filling-begins, filling-ends}
 use Rattle.scene.proofs.Packing.{length-packed, packing-rows, packing-more}
 use borrow.Author.Needs.{needs}
 use Rattle.scene.proofs.areas.pack.Statement.{statement}

@@ -19,8 +19,8 @@ abbrev μ-loop : tie.MeasureT-loop
 clear-identifiers-requires : tie.Need-clear-identifiers-requires Inv-loop μ-loop
 clear-identifiers-requires c κs = search needs
 
-fill-cells-requires : tie.Need-fill-cells-requires Inv-loop μ-loop
-fill-cells-requires c κs = search needs
+fill-requires : tie.Need-fill-requires Inv-loop μ-loop
+fill-requires c κs = search needs
 
 loop-holds : tie.Need-loop-holds Inv-loop μ-loop
 loop-holds c =
@@ -28,7 +28,7 @@ loop-holds c =
     let cleared = filled .before .before .before .before in
     let entry = cleared .before .before .before .before .before in
     going-begins _ _ _ (rw (entry .pre .identifiers-long) at (cleared .clear-identifiers .ensures))
-    (rw (entry .pre .cells-long) at (filled .fill-cells .ensures))
+    (rw (entry .pre .cells-long) at (filled .fill .ensures))
 
 record-at-requires : tie.Need-record-at-requires Inv-loop μ-loop
 record-at-requires c κs =
@@ -161,8 +161,8 @@ enum-known-refusal c = search needs
 clear-identifiers-requires-2 : tie.Need-clear-identifiers-requires-2 Inv-loop μ-loop
 clear-identifiers-requires-2 c κs = search needs
 
-fill-cells-requires-2 : tie.Need-fill-cells-requires-2 Inv-loop μ-loop
-fill-cells-requires-2 c κs = search needs
+fill-requires-2 : tie.Need-fill-requires-2 Inv-loop μ-loop
+fill-requires-2 c κs = search needs
 
 same-length-3 : tie.Need-same-length-3 Inv-loop μ-loop
 same-length-3 c =
@@ -176,7 +176,7 @@ same-length-4 c =
     let filled = c .before .before in
     let going = filled .before .before .before .before .before .before .before .before .before .before .before in
     let entry = going .before .before .before .before .before .before .before .before .before .before .before .before in
-    filled .fill-cells2 .kept .0 ∙ going-cells-long (going .loop .inv) ∙ sym (entry .pre .cells-long)
+    filled .fill2 .kept .0 ∙ going-cells-long (going .loop .inv) ∙ sym (entry .pre .cells-long)
 
 returns-2 : tie.Need-returns-2 Inv-loop μ-loop
 returns-2 c =
@@ -188,7 +188,7 @@ returns-2 c =
     let entry = going .before .before .before .before .before .before .before .before .before .before .before .before in
     refused-reads (entry .pre) (going .loop .inv) (judged .record-at .ensures) (known .refusal .given .1)
     (cleared .clear-identifiers2 .ensures)
-    (filled .fill-cells2 .ensures)
+    (filled .fill2 .ensures)
 
 pub read-records-spec : {M : Type 1} → statement M
 read-records-spec =
@@ -197,7 +197,7 @@ read-records-spec =
     Inv-loop
     μ-loop
     clear-identifiers-requires
-    fill-cells-requires
+    fill-requires
     loop-holds
     record-at-requires
     enum-known-identifier
@@ -219,7 +219,7 @@ read-records-spec =
     returns
     enum-known-refusal
     clear-identifiers-requires-2
-    fill-cells-requires-2
+    fill-requires-2
     same-length-3
     same-length-4
     returns-2)
