@@ -17,19 +17,60 @@ returns c = rw (← c .before .before .size .ensures, ← c .before .size2 .ensu
 
 returns-2 : tie.Need-returns-2
 unfolding classOf
-returns-2 c = rw (← c .before .before .before .size .ensures, ← c .before .before .size2 .ensures, ne-eqb _ _ (c .before .if1 .left), eq-eqb _ _ (c .if2 .taken))
+returns-2 c =
+    let at-if1 = c .before in
+    let at-size2 = at-if1 .before in
+    let at-size = at-size2 .before in
+    rw (← at-size .size .ensures, ← at-size2 .size2 .ensures, ne-eqb _ _ (at-if1 .if1 .left), eq-eqb _ _ (c .if2 .taken))
 
 returns-3 : tie.Need-returns-3
 unfolding classOf
-returns-3 c = rw (← c .before .before .before .before .size .ensures, ← c .before .before .before .size2 .ensures, ne-eqb _ _ (c .before .before .if1 .left), ne-eqb _ _ (c .before .if2 .left), lt-ltb _ _ (c .if3 .taken))
+returns-3 c =
+    let at-if2 = c .before in
+    let at-if1 = at-if2 .before in
+    let at-size2 = at-if1 .before in
+    let at-size = at-size2 .before in
+    rw (
+      ← at-size .size .ensures,
+      ← at-size2 .size2 .ensures,
+      ne-eqb _ _ (at-if1 .if1 .left),
+      ne-eqb _ _ (at-if2 .if2 .left),
+      lt-ltb _ _ (c .if3 .taken),
+    )
 
 returns-4 : tie.Need-returns-4
 unfolding classOf
-returns-4 c = rw (← c .before .before .before .before .before .size .ensures, ← c .before .before .before .before .size2 .ensures, ne-eqb _ _ (c .before .before .before .if1 .left), ne-eqb _ _ (c .before .before .if2 .left), le-ltb _ _ (c .before .if3 .left), lt-ltb _ _ (c .if4 .taken))
+returns-4 c =
+    let at-if3 = c .before in
+    let at-if2 = at-if3 .before in
+    let at-if1 = at-if2 .before in
+    let at-size2 = at-if1 .before in
+    let at-size = at-size2 .before in
+    rw (
+      ← at-size .size .ensures,
+      ← at-size2 .size2 .ensures,
+      ne-eqb _ _ (at-if1 .if1 .left),
+      ne-eqb _ _ (at-if2 .if2 .left),
+      le-ltb _ _ (at-if3 .if3 .left),
+      lt-ltb _ _ (c .if4 .taken),
+    )
 
 returns-5 : tie.Need-returns-5
 unfolding classOf
-returns-5 c = rw (← c .before .before .before .before .before .size .ensures, ← c .before .before .before .before .size2 .ensures, ne-eqb _ _ (c .before .before .before .if1 .left), ne-eqb _ _ (c .before .before .if2 .left), le-ltb _ _ (c .before .if3 .left), le-ltb _ _ (c .if4 .left))
+returns-5 c =
+    let at-if3 = c .before in
+    let at-if2 = at-if3 .before in
+    let at-if1 = at-if2 .before in
+    let at-size2 = at-if1 .before in
+    let at-size = at-size2 .before in
+    rw (
+      ← at-size .size .ensures,
+      ← at-size2 .size2 .ensures,
+      ne-eqb _ _ (at-if1 .if1 .left),
+      ne-eqb _ _ (at-if2 .if2 .left),
+      le-ltb _ _ (at-if3 .if3 .left),
+      le-ltb _ _ (c .if4 .left),
+    )
 
 pub class-of-spec : {M : Type 1} → statement M
 class-of-spec =

@@ -40,7 +40,12 @@ network-requires : tie.Need-network-requires
 network-requires c κs = search needs
 
 put-pairs-requires : tie.Need-put-pairs-requires
-put-pairs-requires c κs = network-paired (call (c .before .before .before .before .before .before .before .before .before .before .before .before .before .before .before .before)) (accepted-network (call (c .before .before .before .before .before .before .before .before .before .before .before .before .before .before .before .before)) (c .before .before .before .before .before .before .before .before .before .before .before .before .before .refine .ensures) (c .before .before .before .before .before .before .before .before .before .verdict .given .1) (c .network .ensures))
+put-pairs-requires c κs =
+    let at-verdict = c .before .before .before .before .before .before .before .before .before in
+    let at-refine = at-verdict .before .before .before .before in
+    let at-before = at-refine .before .before in
+    network-paired (call (at-before .before))
+    (accepted-network (call (at-before .before)) (at-refine .refine .ensures) (at-verdict .verdict .given .1) (c .network .ensures))
 
 enum-known-verdict-2 : tie.Need-enum-known-verdict-2
 enum-known-verdict-2 c = search needs
@@ -64,25 +69,52 @@ same-length : tie.Need-same-length
 same-length c = search needs
 
 returns : tie.Need-returns
-returns c = accepted-reports (call (c .before .before .before .before .before .before .before .before .before .before .before .before .before .before .before .before .before .before .before)) (accepted-network (call (c .before .before .before .before .before .before .before .before .before .before .before .before .before .before .before .before .before .before .before)) (c .before .before .before .before .before .before .before .before .before .before .before .before .before .before .before .before .refine .ensures) (c .before .before .before .before .before .before .before .before .before .before .before .before .verdict .given .1) (c .before .before .before .network .ensures)) (c .before .before .before .before .before .before .before .before .before .put-accepted .ensures) (c .before .before .put-pairs .ensures)
+returns c =
+    let at-put-pairs = c .before .before in
+    let at-network = at-put-pairs .before in
+    let at-put-accepted = at-network .before .before .before .before .before .before in
+    let at-verdict = at-put-accepted .before .before .before in
+    let at-refine = at-verdict .before .before .before .before in
+    let at-before = at-refine .before .before in
+    accepted-reports (call (at-before .before))
+    (accepted-network (call (at-before .before)) (at-refine .refine .ensures) (at-verdict .verdict .given .1) (at-network .network .ensures))
+    (at-put-accepted .put-accepted .ensures) (at-put-pairs .put-pairs .ensures)
 
 same-length-2 : tie.Need-same-length-2
 same-length-2 c = search needs
 
 returns-2 : tie.Need-returns-2
-returns-2 c = contradiction-reports (call (c .before .before .before .before .before .before .before .before .before .before .before .before)) (c .before .before .before .before .before .before .before .before .before .refine .ensures) (c .before .before .before .before .before .verdict2 .given .1) (c .before .before .put-contradiction .ensures)
+returns-2 c =
+    let at-put-contradiction = c .before .before in
+    let at-verdict2 = at-put-contradiction .before .before .before in
+    let at-refine = at-verdict2 .before .before .before .before in
+    let at-before = at-refine .before .before in
+    contradiction-reports (call (at-before .before)) (at-refine .refine .ensures) (at-verdict2 .verdict2 .given .1)
+    (at-put-contradiction .put-contradiction .ensures)
 
 same-length-3 : tie.Need-same-length-3
 same-length-3 c = search needs
 
 returns-3 : tie.Need-returns-3
-returns-3 c = refused-reports (call (c .before .before .before .before .before .before .before .before .before .before .before)) (c .before .before .before .before .before .before .before .before .refine .ensures) (c .before .before .before .before .enum-told .given .1) (λ e. omega arith) (c .before .before .put-refusal .ensures)
+returns-3 c =
+    let at-put-refusal = c .before .before in
+    let at-enum-told = at-put-refusal .before .before in
+    let at-refine = at-enum-told .before .before .before .before in
+    let at-before = at-refine .before .before in
+    refused-reports (call (at-before .before)) (at-refine .refine .ensures) (at-enum-told .enum-told .given .1) (λ e. omega arith)
+    (at-put-refusal .put-refusal .ensures)
 
 same-length-4 : tie.Need-same-length-4
 same-length-4 c = search needs
 
 returns-4 : tie.Need-returns-4
-returns-4 c = refused-reports (call (c .before .before .before .before .before .before .before .before .before .before .before)) (c .before .before .before .before .before .before .before .before .refine .ensures) (c .before .before .before .before .enum-told2 .given .1) (λ e. omega arith) (c .before .before .put-refusal2 .ensures)
+returns-4 c =
+    let at-put-refusal2 = c .before .before in
+    let at-enum-told2 = at-put-refusal2 .before .before in
+    let at-refine = at-enum-told2 .before .before .before .before in
+    let at-before = at-refine .before .before in
+    refused-reports (call (at-before .before)) (at-refine .refine .ensures) (at-enum-told2 .enum-told2 .given .1)
+    (λ e. omega arith) (at-put-refusal2 .put-refusal2 .ensures)
 
 pub put-refined-spec : {M : Type 1} → statement M
 put-refined-spec =

@@ -10,7 +10,10 @@ use Rattle.report_text.proofs.report.Tie as tie
 -- where the reading's number is 0, the areas hold what an accepted scene says
 accepted : (c : tie.Then1)
     → Accepts (now (c .before .before .before .before .before .before .before .before .before .args .scene)) (c .before .before .before .before .before .read .last .1 .0) (c .before .before .before .before .before .read .last .1 .1 .0) (c .before .before .of-reading .result .count)
-accepted c = accepted-read (c .before .before .before .before .before .read .ensures) (c .before .before .of-reading .ensures) (c .if1 .taken)
+accepted c =
+    let at-of-reading = c .before .before in
+    let at-read = at-of-reading .before .before .before in
+    accepted-read (at-read .read .ensures) (at-of-reading .of-reading .ensures) (c .if1 .taken)
 
 slice-aggregate-read : tie.Need-slice-aggregate-read
 slice-aggregate-read c = search needs
@@ -31,7 +34,10 @@ mul-stated : tie.Need-mul-stated
 mul-stated c = omega (arith, cells-few (accepted (c .before .before)))
 
 array-share-prefix-stated : tie.Need-array-share-prefix-stated
-array-share-prefix-stated c = omega (arith, cells-few (accepted (c .before .before)), c .before .before .before .before .before .before .before .read .kept .1 .1 .0)
+array-share-prefix-stated c =
+    let at-before = c .before in
+    let at-read = at-before .before .before .before .before .before .before in
+    omega (arith, cells-few (accepted (at-before .before)), at-read .read .kept .1 .1 .0)
 
 slice-aggregate-put-refined-2 : tie.Need-slice-aggregate-put-refined-2
 slice-aggregate-put-refined-2 c = sym (stated-front (accepted (c .before .before .before)) .size)
@@ -49,7 +55,12 @@ put-refusal-requires : tie.Need-put-refusal-requires
 put-refusal-requires c κs = search needs
 
 returns-2 : tie.Need-returns-2
-returns-2 c = refused-reported (c .before .before .before .before .before .before .before .before .read .ensures) (c .before .before .before .before .before .of-reading .ensures) (c .before .before .before .if1 .left) (omega arith) (c .put-refusal .ensures)
+returns-2 c =
+    let at-if1 = c .before .before .before in
+    let at-of-reading = at-if1 .before .before in
+    let at-read = at-of-reading .before .before .before in
+    refused-reported (at-read .read .ensures) (at-of-reading .of-reading .ensures) (at-if1 .if1 .left) (omega arith)
+    (c .put-refusal .ensures)
 
 pub report-spec : {M : Type 1} → statement M
 report-spec =

@@ -26,7 +26,13 @@ same-length : tie.Need-same-length
 same-length c = search needs
 
 returns : tie.Need-returns
-returns c = three-adds (c .before .before .before .before .before .before .before .before .before .before .before .before .before .before .before .put-word .ensures) (c .before .before .before .before .before .before .before .before .before .before .before .put-field .ensures) (c .before .before .before .before .before .before .before .put-field2 .ensures) (c .before .before .put-word2 .ensures)
+returns c =
+    let at-put-word2 = c .before .before in
+    let at-put-field2 = at-put-word2 .before .before .before .before .before in
+    let at-put-field = at-put-field2 .before .before .before .before in
+    let at-put-word = at-put-field .before .before .before .before in
+    three-adds (at-put-word .put-word .ensures) (at-put-field .put-field .ensures) (at-put-field2 .put-field2 .ensures)
+    (at-put-word2 .put-word2 .ensures)
 
 pub put-accepted-spec : {M : Type 1} → statement M
 put-accepted-spec =

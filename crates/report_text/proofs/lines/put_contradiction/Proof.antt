@@ -61,19 +61,39 @@ same-length : tie.Need-same-length
 same-length c = search needs
 
 returns : tie.Need-returns
-returns c = rw (c .before .before .before .before .before .before .before .contradiction .given .1, ← c .before .before .before .before .before .identifier-at .ensures) (c .before .before .put-refusal .ensures)
+returns c =
+    let at-put-refusal = c .before .before in
+    let at-identifier-at = at-put-refusal .before .before .before in
+    let at-contradiction = at-identifier-at .before .before in
+    rw (at-contradiction .contradiction .given .1, ← at-identifier-at .identifier-at .ensures)
+    (at-put-refusal .put-refusal .ensures)
 
 same-length-2 : tie.Need-same-length-2
 same-length-2 c = search needs
 
 returns-2 : tie.Need-returns-2
-returns-2 c = rw (c .before .before .before .before .before .before .before .before .before .contradiction2 .given .1, ← c .before .before .before .before .before .before .before .identifier-at2 .ensures, ← c .before .before .before .before .before .before .identifier-at3 .ensures) (c .before .before .put-refusal2 .ensures)
+returns-2 c =
+    let at-put-refusal2 = c .before .before in
+    let at-identifier-at3 = at-put-refusal2 .before .before .before .before in
+    let at-identifier-at2 = at-identifier-at3 .before in
+    let at-contradiction2 = at-identifier-at2 .before .before in
+    rw
+    (at-contradiction2 .contradiction2 .given .1, ← at-identifier-at2 .identifier-at2 .ensures, ← at-identifier-at3 .identifier-at3 .ensures)
+    (at-put-refusal2 .put-refusal2 .ensures)
 
 same-length-3 : tie.Need-same-length-3
 same-length-3 c = search needs
 
 returns-3 : tie.Need-returns-3
-returns-3 c = rw (c .before .before .before .before .before .before .before .before .before .before .before .contradiction3 .given .1, ← c .before .before .before .before .before .before .before .before .before .identifier-at4 .ensures, ← c .before .before .before .before .before .before .before .before .identifier-at5 .ensures, ← c .before .before .before .before .before .before .before .identifier-at6 .ensures) (c .before .before .put-refusal3 .ensures)
+returns-3 c =
+    let at-put-refusal3 = c .before .before in
+    let at-identifier-at6 = at-put-refusal3 .before .before .before .before .before in
+    let at-identifier-at5 = at-identifier-at6 .before in
+    let at-identifier-at4 = at-identifier-at5 .before in
+    let at-contradiction3 = at-identifier-at4 .before .before in
+    rw
+    (at-contradiction3 .contradiction3 .given .1, ← at-identifier-at4 .identifier-at4 .ensures, ← at-identifier-at5 .identifier-at5 .ensures, ← at-identifier-at6 .identifier-at6 .ensures)
+    (at-put-refusal3 .put-refusal3 .ensures)
 
 pub put-contradiction-spec : {M : Type 1} → statement M
 put-contradiction-spec =

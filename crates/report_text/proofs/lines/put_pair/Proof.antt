@@ -35,7 +35,14 @@ same-length : tie.Need-same-length
 same-length c = search needs
 
 returns : tie.Need-returns
-returns c = rw (← c .before .before .before .before .before .class-of .ensures) (four-adds (c .before .before .before .before .before .before .before .before .before .before .before .before .before .before .before .before .before .before .put-decimal .ensures) (c .before .before .before .before .before .before .before .before .before .before .before .before .before .put-field .ensures) (c .before .before .before .before .before .before .before .before .put-field2 .ensures) (c .before .before .put-word .ensures))
+returns c =
+    let at-put-word = c .before .before in
+    let at-class-of = at-put-word .before .before .before in
+    let at-put-field2 = at-class-of .before .before .before in
+    let at-put-field = at-put-field2 .before .before .before .before .before in
+    let at-put-decimal = at-put-field .before .before .before .before .before in
+    rw (← at-class-of .class-of .ensures)
+    (four-adds (at-put-decimal .put-decimal .ensures) (at-put-field .put-field .ensures) (at-put-field2 .put-field2 .ensures) (at-put-word .put-word .ensures))
 
 pub put-pair-spec : {M : Type 1} → statement M
 put-pair-spec =

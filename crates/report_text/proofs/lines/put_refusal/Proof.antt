@@ -32,7 +32,15 @@ same-length : tie.Need-same-length
 same-length c = search needs
 
 returns : tie.Need-returns
-returns c = five-adds (c .before .before .before .before .before .before .before .before .before .before .before .before .before .before .before .before .before .before .before .before .before .before .before .put-word .ensures) (c .before .before .before .before .before .before .before .before .before .before .before .before .before .before .before .before .before .before .before .put-field .ensures) (c .before .before .before .before .before .before .before .before .before .before .before .before .before .before .before .put-field2 .ensures) (c .before .before .before .before .before .before .before .before .before .before .before .put-field3 .ensures) (c .before .before .before .before .before .before .before .put-field4 .ensures) (c .before .before .put-word2 .ensures)
+returns c =
+    let at-put-word2 = c .before .before in
+    let at-put-field4 = at-put-word2 .before .before .before .before .before in
+    let at-put-field3 = at-put-field4 .before .before .before .before in
+    let at-put-field2 = at-put-field3 .before .before .before .before in
+    let at-put-field = at-put-field2 .before .before .before .before in
+    let at-put-word = at-put-field .before .before .before .before in
+    five-adds (at-put-word .put-word .ensures) (at-put-field .put-field .ensures) (at-put-field2 .put-field2 .ensures)
+    (at-put-field3 .put-field3 .ensures) (at-put-field4 .put-field4 .ensures) (at-put-word2 .put-word2 .ensures)
 
 pub put-refusal-spec : {M : Type 1} → statement M
 put-refusal-spec =
