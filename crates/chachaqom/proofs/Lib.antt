@@ -1,4 +1,5 @@
 pub mod Crossed
 pub mod Promised
+pub mod Written
 pub mod Unique
 pub mod Wide

@@ -8,6 +8,8 @@ use Rattle.chachaqom.proofs.chachaqom_refine.Kinds as refine-kinds
 use Rattle.chachaqom.proofs.chachaqom_refine.Reads as refine-reads
 use Rattle.chachaqom.proofs.chachaqom_read.Kinds as read-kinds
 use Rattle.chachaqom.proofs.chachaqom_read.Reads as read-reads
+use Rattle.chachaqom.proofs.chachaqom_write.Kinds as write-kinds
+use Rattle.chachaqom.proofs.chachaqom_write.Reads as write-reads
 
 -- the number, the first area, the second and the answer
 pub refine-unique : (κs : Lfts 4) (a : Dens κs refine-kinds.ps) (r r' : resT refine-kinds.r κs .Denot)
@@ -32,3 +34,11 @@ read-unique κs a r r' s s' p q = (
   p .inCells ∙ sym (q .inCells),
   p .inAnswer ∙ sym (q .inAnswer),
 )
+
+-- the number, the buffer and the answer
+pub write-unique : (κs : Lfts 4) (a : Dens κs write-kinds.ps) (r r' : resT write-kinds.r κs .Denot)
+    (s s' : AtExit (endedOf 4 write-kinds.ps write-kinds.r) κs)
+    → write-reads.Post κs a r s → write-reads.Post κs a r' s'
+    → (r ≡ r') × (now (s .1 .1 .1 .0) ≡ now (s' .1 .1 .1 .0)) × (now (s .1 .1 .1 .1 .0) ≡ now (s' .1 .1 .1 .1 .0))
+write-unique κs a r r' s s' p q =
+    (p .returned ∙ sym (q .returned), p .inBuffer ∙ sym (q .inBuffer), p .inAnswer ∙ sym (q .inAnswer))

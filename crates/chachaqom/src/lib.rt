@@ -1,10 +1,14 @@
 // The calls for a host in C: numbers and byte slices only, each slice a pointer and a length. Every answer is 20 bytes.
+mod write;
+
 use numbers::Numbers;
+use write::write_lent;
 ghost use mathlib.Core.Path.{_≡_};
 ghost use Prim.Native.Nat.{_%_};
 ghost use lib.ListN.{length};
 ghost use Rattle.numbers.specs.Told.{told};
 ghost use Rattle.chachaqom.specs.Exports.{RefineExport, ReadExport, numbersBytes};
+ghost use Rattle.chachaqom.specs.WriteExport.{WriteExport};
 ghost use Rattle.chachaqom.specs.Inner.{Answers};
 
 // The 32 bits of a number that cross to C; no number of an answer is wider.
@@ -79,4 +83,22 @@ pub extern "C" fn chachaqom_read(
     }
     put_identifiers(identifiers, &places);
     put(answer, numbers)
+}
+
+// Writes the scene of n regions, whose identifiers are lent as 4 n bytes, into the front of the buffer, and answers in 20 bytes.
+#[no_mangle]
+pub extern "C" fn chachaqom_write(
+    n: usize,
+    identifiers: &[u8],
+    cells: &[u8],
+    buffer: &mut [u8],
+    answer: &mut [u8],
+) -> u32
+    ensures { λ r. ⌜ WriteExport n (now (identifiers .entry)) (now (cells .entry)) (now (buffer .entry)) (now (answer .entry)) (now (buffer .exit)) (now (answer .exit)) r ⌝ }
+{
+    if answer.len() != 20 {
+        return 2;
+    }
+    let writing = write_lent(n, identifiers, cells, buffer);
+    put(answer, numbers::of_writing(writing))
 }

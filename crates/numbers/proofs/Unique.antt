@@ -1,4 +1,4 @@
--- No second answer meets the contract of `of_verdict`, nor that of `of_reading`. Assumes nothing.
+-- No second answer meets the contract of `of_verdict`, of `of_reading` or of `of_writing`. Assumes nothing.
 use mathlib.Core.Path.{_≡_, sym, ap, _∙_}
 use contract.Lifetimes.{Lfts}
 use borrow.Fn.Kinds.{Dens, resT, endedOf}
@@ -10,6 +10,8 @@ use Rattle.numbers.proofs.of_verdict.Kinds as verdict-kinds
 use Rattle.numbers.proofs.of_verdict.Reads as verdict-reads
 use Rattle.numbers.proofs.of_reading.Kinds as reading-kinds
 use Rattle.numbers.proofs.of_reading.Reads as reading-reads
+use Rattle.numbers.proofs.of_writing.Kinds as writing-kinds
+use Rattle.numbers.proofs.of_writing.Reads as writing-reads
 
 -- the code's numbers of an answer
 telling : Answer → Numbers
@@ -29,3 +31,8 @@ pub of-reading-unique : (κs : Lfts 0) (a : Dens κs reading-kinds.ps) (r r' : r
     (s s' : AtExit (endedOf 0 reading-kinds.ps reading-kinds.r) κs)
     → reading-reads.Post κs a r s → reading-reads.Post κs a r' s' → r ≡ r'
 of-reading-unique κs a r r' s s' p q = told-one r r' _ p q
+
+pub of-writing-unique : (κs : Lfts 0) (a : Dens κs writing-kinds.ps) (r r' : resT writing-kinds.r κs .Denot)
+    (s s' : AtExit (endedOf 0 writing-kinds.ps writing-kinds.r) κs)
+    → writing-reads.Post κs a r s → writing-reads.Post κs a r' s' → r ≡ r'
+of-writing-unique κs a r r' s s' p q = told-one r r' _ p q

@@ -1,14 +1,17 @@
-// Document 01's numbers of every answer: of a refinement's verdict and of a scene's reading.
+// Document 01's numbers of every answer: of a refinement's verdict, of a scene's reading and of its writing.
 use network::Contradiction;
 use network::Verdict;
 use scene::Reading;
+use scene::format::MOST_BYTES;
+use writer::Writing;
 ghost use mathlib.Core.Path.{_≡_};
 ghost use Rattle.answer.specs.Answer.{answer};
 ghost use Rattle.network.specs.Numbers.{answerOf as network-answerOf};
 ghost use Rattle.scene.specs.Numbers.{answerOf as scene-answerOf};
+ghost use Rattle.writer.specs.Numbers.{answerOf as writer-answerOf};
 ghost use Rattle.numbers.specs.Told.{told};
 
-// The refusal number or 0, three places (unused ones 0), and the count of rounds or of regions.
+// The refusal number or 0, three places (unused ones 0), and the count of rounds, of regions or of bytes.
 pub struct Numbers {
     pub number: u32,
     pub first: usize,
@@ -61,7 +64,22 @@ pub fn of_reading(reading: Reading) -> Numbers
     match reading {
         Reading::Accepted(regions) => tell(0, 0, 0, 0, regions),
         Reading::WrongLength => tell(2, 0, 0, 0, 0),
-        Reading::TooLong => tell(3, 32768, 0, 0, 0),
+        Reading::TooLong => tell(3, MOST_BYTES, 0, 0, 0),
         Reading::Refused(refusal, place) => tell(refusal.number(), place, 0, 0, 0),
+    }
+}
+
+pub fn of_writing(writing: Writing) -> Numbers
+    ensures { λ r. ⌜ told r ≡ writer-answerOf writing ⌝ }
+{
+    match writing {
+        Writing::Written(bytes) => tell(0, 0, 0, 0, bytes),
+        Writing::OutOfRange => tell(1, 0, 0, 0, 0),
+        Writing::WrongLength => tell(2, 0, 0, 0, 0),
+        Writing::IdentifierZero(place) => tell(6, place.0, 0, 0, 0),
+        Writing::DeclaredTwice(place) => tell(7, place.0, 0, 0, 0),
+        Writing::EmptySet(i, j) => tell(10, i.0, j.0, 0, 0),
+        Writing::TooLong => tell(3, MOST_BYTES, 0, 0, 0),
+        Writing::NoRoom => tell(12, 0, 0, 0, 0),
     }
 }

@@ -1,0 +1,70 @@
+-- `chachaqom::write::identifiers_in` meets its contract. The loop's invariant: the first `place` entries are those of the bytes.
+-- Assumes nothing.
+use mathlib.Core.Path.{_≡_, refl}
+use Prim.Native.Nat.{_-_, _≤_}
+use native.Mathlib.Omega.{arith}
+use lib.ListN.{length, take, length-set}
+use borrow.Author.Needs.{needs}
+use Rattle.chachaqom.specs.WriteExport.{numbersIn}
+use Rattle.chachaqom.proofs.Written.{one-held}
+use Rattle.chachaqom.proofs.write.identifiers_in.Statement.{statement}
+use Rattle.chachaqom.proofs.write.identifiers_in.Tie as tie
+
+abbrev Inv-loop : tie.InvT-loop
+Inv-loop bytes n identifiers₀ place₀ identifiers place = (place ≤ n) × (length identifiers ≡ 64) × (take place identifiers ≡ numbersIn place bytes)
+
+abbrev μ-loop : tie.MeasureT-loop
+μ-loop bytes n identifiers₀ place₀ identifiers place = n - place
+
+loop-holds : tie.Need-loop-holds Inv-loop μ-loop
+unfolding numbersIn
+loop-holds c = (omega arith, refl, refl)
+
+mul-number-at : tie.Need-mul-number-at Inv-loop μ-loop
+mul-number-at c = omega arith
+
+number-at-requires : tie.Need-number-at-requires Inv-loop μ-loop
+number-at-requires c κs = search needs
+
+mul-identifiers : tie.Need-mul-identifiers Inv-loop μ-loop
+mul-identifiers c = omega arith
+
+array-write-identifiers : tie.Need-array-write-identifiers Inv-loop μ-loop
+array-write-identifiers c = omega arith
+
+add-place : tie.Need-add-place Inv-loop μ-loop
+add-place c = omega arith
+
+loop-less : tie.Need-loop-less Inv-loop μ-loop
+loop-less c = omega arith
+
+loop-again : tie.Need-loop-again Inv-loop μ-loop
+loop-again c =
+    let loop = c .before .before .loop in (
+      omega arith,
+      simp length-set (loop .inv .1),
+      one-held (c .before .before .before .before .args .bytes .now) (loop .identifiers) (loop .place) _ (omega arith) (loop .inv .2)
+          (c .number-at .ensures),
+    )
+
+returns : tie.Need-returns Inv-loop μ-loop
+returns c =
+    let loop = c .before .loop in
+    let all : loop .place ≡ c .before .before .before .args .n = omega arith in
+    rw (← all) (loop .inv .2)
+
+pub identifiers-in-spec : {M : Type 1} → statement M
+identifiers-in-spec =
+    tie.close
+    (tie.spec
+    Inv-loop
+    μ-loop
+    loop-holds
+    mul-number-at
+    number-at-requires
+    mul-identifiers
+    array-write-identifiers
+    add-place
+    loop-less
+    loop-again
+    returns)

@@ -1,0 +1,12 @@
+pub mod SceneLaws
+pub mod CheckLaws
+pub mod PutLaws
+pub mod WriteLaws
+pub mod Unique
+pub mod NameLaws
+pub mod RecordsBack
+pub mod ReadBack
+pub mod CellsBack
+pub mod NoLonger
+pub mod RoundTrip
+pub mod Examples

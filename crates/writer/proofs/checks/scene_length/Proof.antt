@@ -1,0 +1,30 @@
+-- `writer::checks::scene_length` meets its contract: no more cells are stated than there are, so the sum fits. Assumes nothing.
+use native.Mathlib.Omega.{arith}
+use borrow.Author.Needs.{needs}
+use lib.ListN.{length}
+use Rattle.writer.proofs.SceneLaws.{stated-most}
+use Rattle.writer.proofs.checks.scene_length.Statement.{statement}
+use Rattle.writer.proofs.checks.scene_length.Tie as tie
+
+mul-result : tie.Need-mul-result
+mul-result c = search needs
+
+stated-count-requires : tie.Need-stated-count-requires
+stated-count-requires c κs = search needs
+
+mul-result-2 : tie.Need-mul-result-2
+mul-result-2 c = let cells = c .before .before .args .cells .now in omega (arith, stated-most cells (length cells))
+
+add-result : tie.Need-add-result
+add-result c = let cells = c .before .before .args .cells .now in omega (arith, stated-most cells (length cells))
+
+add-result-2 : tie.Need-add-result-2
+add-result-2 c = let cells = c .before .before .args .cells .now in omega (arith, stated-most cells (length cells))
+
+returns : tie.Need-returns
+returns c = search needs
+
+pub scene-length-spec : {M : Type 1} → statement M
+scene-length-spec =
+    tie.close
+    (tie.spec mul-result stated-count-requires mul-result-2 add-result add-result-2 returns)

@@ -1,0 +1,76 @@
+-- `writer::put::put_regions` meets its contract. The loop's invariant: the records of the places before `place` are put. Assumes nothing.
+use mathlib.Core.Path.{_≡_, refl, ap, _∙_}
+use mathlib.Core.List.{List}
+use Prim.Native.Nat.{ℕ, _-_, _≤_}
+use native.Mathlib.Omega.{arith}
+use lib.ListN.{length, take}
+use lib.Seq.{sets, take-all}
+use Rattle.writer.specs.Scene.{regionRecords}
+use Rattle.writer.proofs.PutLaws.{region-next}
+use Rattle.writer.proofs.put.put_regions.Statement.{statement}
+use Rattle.writer.proofs.put.put_regions.Tie as tie
+
+abbrev Inv-loop : tie.InvT-loop
+Inv-loop identifiers buffer₀ place₀ buffer place =
+    (place ≤ length identifiers) × (length buffer ≡ length buffer₀) × (buffer ≡ sets buffer₀ 0 (regionRecords (take place identifiers)))
+
+abbrev μ-loop : tie.MeasureT-loop
+μ-loop identifiers buffer₀ place₀ buffer place = length identifiers - place
+
+loop-holds : tie.Need-loop-holds Inv-loop μ-loop
+unfolding regionRecords
+loop-holds c = (omega arith, refl, refl)
+
+mul-put-region : tie.Need-mul-put-region Inv-loop μ-loop
+mul-put-region c = omega arith
+
+mul-put-region-2 : tie.Need-mul-put-region-2 Inv-loop μ-loop
+mul-put-region-2 c = omega arith
+
+shared-slice-read-put-region : tie.Need-shared-slice-read-put-region Inv-loop μ-loop
+shared-slice-read-put-region c = omega arith
+
+put-region-requires : tie.Need-put-region-requires Inv-loop μ-loop
+put-region-requires c κs = omega (arith, c .before .before .before .before .before .before .pre)
+
+add-place : tie.Need-add-place Inv-loop μ-loop
+add-place c = omega arith
+
+loop-less : tie.Need-loop-less Inv-loop μ-loop
+loop-less c = omega arith
+
+loop-again : tie.Need-loop-again Inv-loop μ-loop
+loop-again c =
+    let turn = c .before .before .before .before .before .before in
+    let a = turn .before .before .before .args in (
+      omega arith,
+      c .before .before .put-region .kept .0 ∙ turn .loop .inv .1,
+      region-next (a .identifiers .now) (a .buffer .now) _ _ (turn .loop .place) (omega arith) (turn .loop .inv .2)
+          (c .before .before .put-region .ensures),
+    )
+
+same-length : tie.Need-same-length Inv-loop μ-loop
+same-length c = c .before .loop .inv .1
+
+returns : tie.Need-returns Inv-loop μ-loop
+returns c =
+    let a = c .before .before .before .before .args in
+    c .before .loop .inv .2
+    ∙ ap (λ (l : List ℕ). sets (a .buffer .now) 0 (regionRecords l)) (take-all (c .before .loop .place) (a .identifiers .now) (omega arith))
+
+pub put-regions-spec : {M : Type 1} → statement M
+put-regions-spec =
+    tie.close
+    (tie.spec
+    Inv-loop
+    μ-loop
+    loop-holds
+    mul-put-region
+    mul-put-region-2
+    shared-slice-read-put-region
+    put-region-requires
+    add-place
+    loop-less
+    loop-again
+    same-length
+    returns)

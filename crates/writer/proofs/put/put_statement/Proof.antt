@@ -1,0 +1,64 @@
+-- `writer::put::put_statement` meets its contract: the kind, both identifiers and the set, one behind the other. Assumes nothing.
+use Prim.Native.Nat.{_+_}
+use mathlib.Core.Path.{_∙_}
+use native.Mathlib.Omega.{arith}
+use borrow.Author.Needs.{needs}
+use lib.ListN.{length-set}
+use Rattle.writer.proofs.PutLaws.{statement-put}
+use Rattle.writer.proofs.put.put_statement.Statement.{statement}
+use Rattle.writer.proofs.put.put_statement.Tie as tie
+
+slice-write-buffer : tie.Need-slice-write-buffer
+slice-write-buffer c = search needs
+
+add-put-number : tie.Need-add-put-number
+add-put-number c = search needs
+
+put-number-requires : tie.Need-put-number-requires
+put-number-requires c κs = search needs
+
+add-put-number-2 : tie.Need-add-put-number-2
+add-put-number-2 c = search needs
+
+put-number-requires-2 : tie.Need-put-number-requires-2
+put-number-requires-2 c κs = search needs
+
+add-buffer : tie.Need-add-buffer
+add-buffer c = search needs
+
+slice-write-buffer-2 : tie.Need-slice-write-buffer-2
+slice-write-buffer-2 c =
+    let second = c .before .before in
+    let first = second .before .before .before .before in
+    let s = first .before .before .before in
+    omega (arith, s .pre, second .put-number2 .kept .0, first .put-number .kept .0, length-set (s .args .buffer .now) (s .args .at) 2)
+
+same-length : tie.Need-same-length
+same-length c =
+    let second = c .before .before in
+    let first = second .before .before .before .before in
+    let s = first .before .before .before in
+    length-set (second .put-number2 .last .0) (s .args .at + 9) (s .args .set) ∙ second .put-number2 .kept .0
+    ∙ first .put-number .kept .0 ∙ length-set (s .args .buffer .now) (s .args .at) 2
+
+returns : tie.Need-returns
+returns c =
+    let second = c .before .before in
+    let first = second .before .before .before .before in
+    let s = first .before .before .before in
+    statement-put (s .args .buffer .now) _ _ (s .args .at) (s .args .a) (s .args .b) (s .args .set) (s .pre)
+    (first .put-number .ensures) (second .put-number2 .ensures)
+
+pub put-statement-spec : {M : Type 1} → statement M
+put-statement-spec =
+    tie.close
+    (tie.spec
+    slice-write-buffer
+    add-put-number
+    put-number-requires
+    add-put-number-2
+    put-number-requires-2
+    add-buffer
+    slice-write-buffer-2
+    same-length
+    returns)

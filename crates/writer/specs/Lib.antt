@@ -1,0 +1,5 @@
+pub mod Scene
+pub mod Writing
+pub mod Numbers
+pub mod Writes
+pub mod Inner
