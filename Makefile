@@ -7,7 +7,7 @@
 #   make compare                       the library compared with the second program, and with its faults
 #   make fuzz SEED=.. COUNT=..         the same comparison on other inputs
 #   make bench                         times beside other refinements
-#   make editor                        the example host: target/c/editor SCENE
+#   make editor                        the example host: target/c/editor SCENE [OUT]
 #   make install PREFIX=..             archive, header and pkg-config file
 #   make clean                         removes what this file built
 #

@@ -4,11 +4,12 @@
  * A scene is a file that declares regions by identifier and states which of eight relations may
  * hold between two of them. chachaqom_read reads a scene into a matrix of relation sets, one cell
  * for each ordered pair of regions. chachaqom_refine removes from such a matrix what cannot hold,
- * or refuses it and names the region, pair or triple at which nothing is left.
+ * or refuses it and names the region, pair or triple at which nothing is left. chachaqom_write
+ * writes a scene from identifiers and a matrix; reading it gives back both.
  *
  *     uint8_t identifiers[CHACHAQOM_IDENTIFIERS_LENGTH], cells[CHACHAQOM_CELLS_LENGTH];
  *     uint8_t first[CHACHAQOM_CELLS_LENGTH], second[CHACHAQOM_CELLS_LENGTH];
- *     uint8_t answer[CHACHAQOM_ANSWER_LENGTH];
+ *     uint8_t buffer[CHACHAQOM_SCENE_LIMIT], answer[CHACHAQOM_ANSWER_LENGTH];
  *
  *     if (chachaqom_read(scene, scene_length, identifiers, sizeof identifiers, cells, sizeof cells,
  *                        answer, sizeof answer) == CHACHAQOM_ACCEPTED) {
@@ -16,6 +17,9 @@
  *         if (chachaqom_refine(n, cells, n * n, first, n * n, second, n * n,
  *                              answer, sizeof answer) == CHACHAQOM_ACCEPTED)
  *             use(first);   // the set of region i towards region j is first[i * n + j]
+ *         if (chachaqom_write(n, identifiers, n * CHACHAQOM_NUMBER_LENGTH, cells, n * n,
+ *                             buffer, sizeof buffer, answer, sizeof answer) == CHACHAQOM_ACCEPTED)
+ *             save(buffer, chachaqom_number(answer, CHACHAQOM_ANSWER_COUNT));
  *     }
  *
  * Sets. A set of relations is one byte, the sum of the values CHACHAQOM_DISJOINT to
@@ -76,7 +80,7 @@ enum {
 /* Limits, and lengths in bytes. */
 enum {
     CHACHAQOM_REGIONS_LIMIT = 64,          /* the largest n */
-    CHACHAQOM_SCENE_LIMIT = 32768,         /* the longest scene that is looked at */
+    CHACHAQOM_SCENE_LIMIT = 32768,         /* the longest scene that is looked at or written */
     CHACHAQOM_NUMBER_LENGTH = 4,           /* an identifier, or a number of an answer */
     CHACHAQOM_IDENTIFIERS_LENGTH = 64 * 4, /* the identifiers of chachaqom_read, exactly */
     CHACHAQOM_CELLS_LENGTH = 64 * 64,      /* the cells of chachaqom_read, exactly */
@@ -94,25 +98,29 @@ enum {
 };
 
 /*
- * The refusal numbers. For a scene, "the record" is the byte at which the refused record starts,
- * counted from 0; for a matrix, places are those of regions.
+ * The refusal numbers. For a scene that is read, "the record" is the byte at which the refused
+ * record starts, counted from 0; for a matrix and for writing, places are those of regions.
  */
 enum {
     CHACHAQOM_ACCEPTED = 0,
-    CHACHAQOM_OUT_OF_RANGE = 1,     /* matrix: n is 0 or over 64, names 0;
-                                       scene: ends with no region, names the End record */
+    CHACHAQOM_OUT_OF_RANGE = 1,     /* matrix, writing: n is 0 or over 64, names 0;
+                                       reading: ends with no region, names the End record */
     CHACHAQOM_WRONG_LENGTH = 2,     /* the length of an array is wrong; names 0 */
-    CHACHAQOM_TOO_LONG = 3,         /* the scene is over 32,768 bytes; names 32,768 */
+    CHACHAQOM_TOO_LONG = 3,         /* the scene is, or would be, over 32,768 bytes; names 32,768 */
     CHACHAQOM_CUT_SHORT = 4,        /* the scene stops within a record, which is named, or where a
                                        record should start; then the scene's length is named */
     CHACHAQOM_UNKNOWN_KIND = 5,     /* the kind is none of the three; names the record */
-    CHACHAQOM_IDENTIFIER_ZERO = 6,  /* identifier 0 is declared; names the record */
-    CHACHAQOM_IDENTIFIER_TWICE = 7, /* the identifier is declared already; names the record */
+    CHACHAQOM_IDENTIFIER_ZERO = 6,  /* identifier 0 is declared; names the record;
+                                       writing: names the region's place */
+    CHACHAQOM_IDENTIFIER_TWICE = 7, /* the identifier is declared already; names the record;
+                                       writing: names the place of the later region */
     CHACHAQOM_TOO_MANY_REGIONS = 8, /* a 65th region, its identifier new; names the record */
     CHACHAQOM_NOT_DECLARED = 9,     /* a statement about an identifier not declared before it, 0
                                        included; names the record */
-    CHACHAQOM_SET_EMPTY = 10,       /* a statement of the empty set; names the record */
+    CHACHAQOM_SET_EMPTY = 10,       /* a statement of the empty set; names the record;
+                                       writing: an empty cell; names its row and column */
     CHACHAQOM_AFTER_END = 11,       /* bytes after the End record; names the first of them */
+    CHACHAQOM_NO_ROOM = 12,         /* the buffer is shorter than the scene to write; names 0 */
     CHACHAQOM_NODE = 21,            /* a region cannot equal itself; names its place */
     CHACHAQOM_ARC = 22,             /* what is stated of a pair, both ways, leaves nothing; names
                                        the two places, the lower one first */
@@ -122,7 +130,7 @@ enum {
 
 /*
  * Takes number k, from 0 to 4, out of an answer. It also takes identifier k, from 0 to 63, out of
- * the identifiers that chachaqom_read fills.
+ * the identifiers that chachaqom_read fills and chachaqom_write takes.
  */
 static inline uint32_t chachaqom_number(const uint8_t *numbers, size_t k)
 {
@@ -209,6 +217,46 @@ uint32_t chachaqom_read(const uint8_t *scene, size_t scene_length,
                         uint8_t *identifiers, size_t identifiers_length,
                         uint8_t *cells, size_t cells_length,
                         uint8_t *answer, size_t answer_length);
+
+/*
+ * Writes a scene into the front of a buffer: a region record for each identifier, in place order;
+ * then, row by row, a statement of region i towards region j for each cell (i, j), the diagonal
+ * included, that is not CHACHAQOM_UNIVERSAL; then an end record. Reading that scene gives back the
+ * same identifiers and cells.
+ *
+ *   n                   the number of regions, 1 to CHACHAQOM_REGIONS_LIMIT
+ *   identifiers         identifier i, big-endian, in the four bytes from 4 * i; never written
+ *   identifiers_length  exactly 4 * n
+ *   cells               the matrix, cell (i, j) at i * n + j; never written
+ *   cells_length        exactly n * n
+ *   buffer              receives the scene
+ *   buffer_length       at least the scene's length: 5 * n + 10 * (cells other than 255) + 1. With
+ *                       CHACHAQOM_SCENE_LIMIT there is room for every scene
+ *   answer              receives the answer
+ *   answer_length       exactly CHACHAQOM_ANSWER_LENGTH
+ *
+ * Checked in this order, the first that fails is answered:
+ *   2   answer_length is wrong                       nothing at all is written, not even the answer
+ *   1   n is 0 or over 64                            names 0
+ *   2   identifiers_length or cells_length is wrong  names 0
+ *   6   an identifier is 0                           names its place
+ *   7   an identifier is repeated                    names the place of the later one
+ *   10  a cell is empty                              names row and column, the first in row order
+ *   3   the scene would be over 32,768 bytes         names 32,768
+ *   12  the buffer is shorter than the scene         names 0
+ * 6 and 7 go by place: the least place that has 0 or an earlier place's identifier is answered.
+ * Every refusal leaves the whole buffer as it was.
+ *
+ * Acceptance (0) leaves the scene in the first bytes of the buffer and the rest as it was. The
+ * answer's count is the scene's length in bytes, from 6 to 32,766; for a refusal it is 0. The
+ * matrix is written as it is given: that it can be refined is not asked.
+ *
+ * Returns the answer's number.
+ */
+uint32_t chachaqom_write(size_t n, const uint8_t *identifiers, size_t identifiers_length,
+                         const uint8_t *cells, size_t cells_length,
+                         uint8_t *buffer, size_t buffer_length,
+                         uint8_t *answer, size_t answer_length);
 
 #ifdef __cplusplus
 }

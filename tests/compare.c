@@ -1,7 +1,8 @@
 /*
  * compare.c: compares the library's calls with the second program on random, damaged and hostile
  * inputs, byte by byte: what is returned, the answer, every lent area with the bytes before and
- * behind it, and the inputs, which no call may write.
+ * behind it, and the inputs, which no call may write. What the library reads is written, and what
+ * it writes is read back.
  *
  *     compare [SEED [COUNT [FIRST]]]   compares inputs FIRST .. FIRST + COUNT - 1 of the seed
  *     compare faults [SEED]            plants each fault of the second program and requires that
@@ -19,10 +20,10 @@
 
 enum {
     GUARD = 64,              /* marked bytes before and behind each lent array */
-    ROOM = 33000,            /* more than the longest array that is lent */
+    ROOM = 42000,            /* more than the longest array that is lent */
     DEFAULT_COUNT = 100000,
     FAULT_BOUND = 20000,     /* inputs within which a planted fault must be noticed */
-    COVERED_FROM = 10000,    /* from so many inputs on, every refusal number must have occurred */
+    COVERED_FROM = 10000,    /* from so many inputs on, each call must have given all its numbers */
     NUMBERS = CHACHAQOM_PATH + 1
 };
 
@@ -113,17 +114,20 @@ static uint8_t *lent_to(struct lent *lent, int program)
 
 /* ---- what is compared ---- */
 
+enum { REFINE, READ, WRITE, CALLS };
+
 static int quiet;                     /* faults are looked for: a difference is no failure */
 static uint64_t current_seed, current_input;
-static uint64_t seen[NUMBERS];        /* how often each number was answered */
+static uint64_t seen[CALLS][NUMBERS]; /* how often each call answered each number */
+static uint64_t read_back;            /* how many written scenes were read back */
 static uint32_t longest_rounds;
 
-static int differs(const char *what, size_t place, unsigned library, unsigned second_program)
+static int differs(const char *what, size_t place, unsigned library, unsigned expected)
 {
     if (!quiet)
-        printf("compare: seed %" PRIu64 ", input %" PRIu64 ": %s, place %ld: library %u, second "
-               "program %u\n  again with: compare %" PRIu64 " 1 %" PRIu64 "\n",
-               current_seed, current_input, what, (long)place - GUARD, library, second_program,
+        printf("compare: seed %" PRIu64 ", input %" PRIu64 ": %s, place %ld: library %u, "
+               "expected %u\n  again with: compare %" PRIu64 " 1 %" PRIu64 "\n",
+               current_seed, current_input, what, (long)place - GUARD, library, expected,
                current_seed, current_input);
     return 0;
 }
@@ -163,12 +167,12 @@ static int input_alike(const struct lent *input)
     return left_alike(input) && left_untouched(input, 0, whole(input));
 }
 
-static int returned_alike(uint32_t library, uint32_t second_program)
+static int returned_alike(int call, uint32_t library, uint32_t second_program)
 {
     if (library != second_program)
         return differs("returned number", GUARD, library, second_program);
     if (library < NUMBERS)
-        seen[library]++;
+        seen[call][library]++;
     return 1;
 }
 
@@ -190,7 +194,7 @@ static int compare_refine(size_t n)
         lent_to(&lent_first, SECOND_PROGRAM), lent_first.length,
         lent_to(&lent_second, SECOND_PROGRAM), lent_second.length,
         lent_to(&lent_answer, SECOND_PROGRAM), lent_answer.length);
-    return returned_alike(returned[LIBRARY], returned[SECOND_PROGRAM])
+    return returned_alike(REFINE, returned[LIBRARY], returned[SECOND_PROGRAM])
            && area_alike(&lent_answer) && area_alike(&lent_first) && area_alike(&lent_second)
            && input_alike(&lent_cells);
 }
@@ -470,7 +474,7 @@ static int compare_read(void)
         lent_to(&lent_identifiers, SECOND_PROGRAM), lent_identifiers.length,
         lent_to(&lent_read_cells, SECOND_PROGRAM), lent_read_cells.length,
         lent_to(&lent_answer, SECOND_PROGRAM), lent_answer.length);
-    return returned_alike(returned[LIBRARY], returned[SECOND_PROGRAM])
+    return returned_alike(READ, returned[LIBRARY], returned[SECOND_PROGRAM])
            && area_alike(&lent_answer) && area_alike(&lent_identifiers)
            && area_alike(&lent_read_cells) && input_alike(&lent_scene);
 }
@@ -530,7 +534,7 @@ static void choose_identifiers(uint32_t *identifiers, size_t count)
 
 static size_t region_count(void)
 {
-    if (once_in(12))
+    if (once_in(8))
         return 63 + below(3);
     return 1 + below(once_in(8) ? 30 : 6);
 }
@@ -779,8 +783,8 @@ static void damage_scene(void)
 {
     static void (*const damages[])(void) = {
         flip_a_bit, change_a_byte, cut_short, repeat_a_record, remove_a_record, swap_two_records,
-        plant_an_unknown_kind, declare_zero, declare_twice, declare_one_more, speak_of_undeclared,
-        speak_of_undeclared, state_the_empty_set, add_behind, end_early
+        plant_an_unknown_kind, declare_zero, declare_twice, declare_one_more, declare_one_more,
+        speak_of_undeclared, speak_of_undeclared, state_the_empty_set, add_behind, end_early
     };
 
     if (scene_length == 0)
@@ -791,6 +795,109 @@ static void damage_scene(void)
     else
         damages[below(sizeof damages / sizeof damages[0])]();
 }
+
+/* ---- writing ---- */
+
+static struct lent lent_buffer;
+
+/* The library left the buffer as it was, but for the scene in its front. */
+static int buffer_kept(uint32_t number, size_t written)
+{
+    return left_untouched(&lent_buffer, 0, GUARD)
+           && left_untouched(&lent_buffer, GUARD + (number == CHACHAQOM_ACCEPTED ? written : 0),
+                             whole(&lent_buffer));
+}
+
+/* The bytes begin with the given ones and go on with zeros. */
+static int same_then_zeros(const char *what, const uint8_t *bytes, size_t length,
+                           const uint8_t *given, size_t given_length)
+{
+    size_t i;
+
+    for (i = 0; i < length; i++) {
+        uint8_t expected = i < given_length ? given[i] : 0;
+
+        if (bytes[i] != expected)
+            return differs(what, GUARD + i, bytes[i], expected);
+    }
+    return 1;
+}
+
+/* What was written is read back to the identifiers and cells that were given. */
+static int reads_back(size_t n, size_t written)
+{
+    static uint8_t identifiers[CHACHAQOM_IDENTIFIERS_LENGTH], cells[CHACHAQOM_CELLS_LENGTH];
+    uint8_t answer[CHACHAQOM_ANSWER_LENGTH];
+    uint32_t number, count;
+
+    memset(identifiers, 0xA5, sizeof identifiers);
+    memset(cells, 0xA5, sizeof cells);
+    number = chachaqom_read(lent_to(&lent_buffer, LIBRARY), written,
+                            identifiers, sizeof identifiers, cells, sizeof cells,
+                            answer, sizeof answer);
+    count = chachaqom_number(answer, CHACHAQOM_ANSWER_COUNT);
+    read_back++;
+    if (number != CHACHAQOM_ACCEPTED)
+        return differs("number of reading back", GUARD, number, CHACHAQOM_ACCEPTED);
+    if (count != n)
+        return differs("regions read back", GUARD, count, (unsigned)n);
+    return same_then_zeros("identifiers read back", identifiers, sizeof identifiers,
+                           lent_identifiers.before + GUARD, n * CHACHAQOM_NUMBER_LENGTH)
+           && same_then_zeros("cells read back", cells, sizeof cells, lent_cells.before + GUARD,
+                              n * n);
+}
+
+static int compare_write(size_t n)
+{
+    uint32_t returned[2];
+    size_t written;
+
+    returned[LIBRARY] = chachaqom_write(
+        n, lent_to(&lent_identifiers, LIBRARY), lent_identifiers.length,
+        lent_to(&lent_cells, LIBRARY), lent_cells.length,
+        lent_to(&lent_buffer, LIBRARY), lent_buffer.length,
+        lent_to(&lent_answer, LIBRARY), lent_answer.length);
+    returned[SECOND_PROGRAM] = second_write(
+        n, lent_to(&lent_identifiers, SECOND_PROGRAM), lent_identifiers.length,
+        lent_to(&lent_cells, SECOND_PROGRAM), lent_cells.length,
+        lent_to(&lent_buffer, SECOND_PROGRAM), lent_buffer.length,
+        lent_to(&lent_answer, SECOND_PROGRAM), lent_answer.length);
+    if (!(returned_alike(WRITE, returned[LIBRARY], returned[SECOND_PROGRAM])
+          && area_alike(&lent_answer) && area_alike(&lent_buffer)
+          && input_alike(&lent_identifiers) && input_alike(&lent_cells)))
+        return 0;
+    if (returned[LIBRARY] != CHACHAQOM_ACCEPTED)
+        return buffer_kept(returned[LIBRARY], 0);
+    written = chachaqom_number(lent_to(&lent_answer, LIBRARY), CHACHAQOM_ANSWER_COUNT);
+    return buffer_kept(CHACHAQOM_ACCEPTED, written) && reads_back(n, written);
+}
+
+/* An accepted scene is never longer when it is written; only an empty cell hinders it. */
+static int writes_what_was_read(void)
+{
+    static uint8_t identifiers[CHACHAQOM_IDENTIFIERS_LENGTH], cells[CHACHAQOM_CELLS_LENGTH];
+    size_t n;
+    int empty;
+
+    if (lent_answer.length != CHACHAQOM_ANSWER_LENGTH
+        || chachaqom_number(lent_to(&lent_answer, LIBRARY), 0) != CHACHAQOM_ACCEPTED)
+        return 1;
+    n = chachaqom_number(lent_to(&lent_answer, LIBRARY), CHACHAQOM_ANSWER_COUNT);
+    memcpy(identifiers, lent_to(&lent_identifiers, LIBRARY), sizeof identifiers);
+    memcpy(cells, lent_to(&lent_read_cells, LIBRARY), sizeof cells);
+    empty = memchr(cells, CHACHAQOM_EMPTY, n * n) != NULL;
+    lend_input(&lent_identifiers, "identifiers", identifiers, n * CHACHAQOM_NUMBER_LENGTH);
+    lend_input(&lent_cells, "cells", cells, n * n);
+    lend(&lent_buffer, "buffer", scene_length);
+    lend(&lent_answer, "answer", CHACHAQOM_ANSWER_LENGTH);
+    if (!compare_write(n))
+        return 0;
+    if (chachaqom_number(lent_to(&lent_answer, LIBRARY), 0) != (empty ? CHACHAQOM_SET_EMPTY : 0u))
+        return differs("writing what was read", GUARD, !empty, empty);
+    return 1;
+}
+
+/* ---- a scene, whole ---- */
 
 static int compare_scene(void)
 {
@@ -812,7 +919,166 @@ static int compare_scene(void)
     lend(&lent_identifiers, "identifiers", lengths[0]);
     lend(&lent_read_cells, "cells", lengths[1]);
     lend(&lent_answer, "answer", lengths[2]);
-    return compare_read();
+    return compare_read() && writes_what_was_read();
+}
+
+/* ---- what is given to write ---- */
+
+enum { MOST = CHACHAQOM_REGIONS_LIMIT + 1 }; /* one region more than there may be */
+
+static uint32_t given_identifiers[MOST];
+static uint8_t given_cells[MOST * MOST + 1]; /* a byte more, for a length off by one */
+
+static uint8_t random_stated(void)
+{
+    return (uint8_t)(1 + below(CHACHAQOM_UNIVERSAL - 1));
+}
+
+/* So many of the cells, chosen at random, are stated; the others are 255. */
+static void state_so_many(uint8_t *cells, size_t n, size_t count)
+{
+    size_t left = n * n, i;
+
+    for (i = 0; left > 0; i++, left--)
+        if (below(left) < count) {
+            cells[i] = random_stated();
+            count--;
+        }
+}
+
+static void state_some(uint8_t *cells, size_t n)
+{
+    state_so_many(cells, n, below(n * n + 1));
+}
+
+static void state_every_cell(uint8_t *cells, size_t n)
+{
+    state_so_many(cells, n, n * n);
+}
+
+/* The last cell, the first or both, and little else. */
+static void state_corners(uint8_t *cells, size_t n)
+{
+    state_so_many(cells, n, below(3) % (n * n));
+    if (!once_in(4))
+        cells[n * n - 1] = random_stated();
+    if (once_in(2))
+        cells[0] = random_stated();
+}
+
+/* As many statements as n regions may have within the limit, or one or two more. */
+static void state_to_the_limit(uint8_t *cells, size_t n)
+{
+    size_t room = CHACHAQOM_SCENE_LIMIT - CHACHAQOM_END_LENGTH - n * CHACHAQOM_REGION_LENGTH;
+    size_t count = room / CHACHAQOM_STATEMENT_LENGTH + below(3);
+
+    state_so_many(cells, n, count < n * n ? count : n * n);
+}
+
+/* How long the scene is that says all this. */
+static size_t length_to_write(const uint8_t *cells, size_t n)
+{
+    size_t length = n * CHACHAQOM_REGION_LENGTH + CHACHAQOM_END_LENGTH, i;
+
+    for (i = 0; i < n * n; i++)
+        if (cells[i] != CHACHAQOM_UNIVERSAL)
+            length += CHACHAQOM_STATEMENT_LENGTH;
+    return length;
+}
+
+/* As long as the scene, a byte or more shorter or longer, empty, or about the limit. */
+static size_t choose_room(size_t length)
+{
+    switch (below(8)) {
+    case 0:
+        return length - 1;
+    case 1:
+        return length + 1;
+    case 2:
+        return below(length);
+    case 3:
+        return length + below(100);
+    case 4:
+        return once_in(3) ? 0 : CHACHAQOM_SCENE_LIMIT - below(4);
+    default:
+        return length;
+    }
+}
+
+/* An identifier becomes 0 or that of another place; or a cell becomes empty. */
+static void damage_given(size_t n)
+{
+    size_t which = below(3);
+
+    if (which == 0)
+        given_identifiers[below(n)] = 0;
+    if (which == 1)
+        given_identifiers[below(n)] = given_identifiers[below(n)];
+    if (which == 2)
+        given_cells[below(n * n)] = CHACHAQOM_EMPTY;
+}
+
+static size_t size_to_write(void)
+{
+    return once_in(20) ? 57 + below(8) : random_size();
+}
+
+static void give(size_t n)
+{
+    static void (*const styles[])(uint8_t *, size_t) = {
+        state_some, state_every_cell, state_corners, state_sparsely, state_rectangles,
+        state_chain, state_blemishes, state_anything
+    };
+    size_t damages = once_in(3) ? 1 + below(4) : 0;
+
+    memset(given_cells, CHACHAQOM_UNIVERSAL, sizeof given_cells);
+    choose_identifiers(given_identifiers, MOST);
+    if (n >= 57 && once_in(2))
+        state_to_the_limit(given_cells, n);
+    else
+        styles[below(sizeof styles / sizeof styles[0])](given_cells, n);
+    while (damages-- > 0)
+        damage_given(n);
+}
+
+/* Lends what is given, in so many bytes: identifiers, cells, buffer, answer. */
+static void lend_given(const size_t *lengths)
+{
+    uint8_t identifiers[MOST * CHACHAQOM_NUMBER_LENGTH + 1];
+    size_t i;
+
+    memset(identifiers, 0, sizeof identifiers);
+    for (i = 0; i < MOST * CHACHAQOM_NUMBER_LENGTH; i++)
+        identifiers[i] = (uint8_t)(given_identifiers[i / 4] >> (24 - 8 * (i % 4)));
+    lend_input(&lent_identifiers, "identifiers", identifiers, lengths[0]);
+    lend_input(&lent_cells, "cells", given_cells, lengths[1]);
+    lend(&lent_buffer, "buffer", lengths[2]);
+    lend(&lent_answer, "answer", lengths[3]);
+}
+
+static int compare_given(void)
+{
+    size_t n = size_to_write(), size = n, lengths[4];
+
+    give(n);
+    lengths[0] = n * CHACHAQOM_NUMBER_LENGTH;
+    lengths[1] = n * n;
+    lengths[2] = choose_room(length_to_write(given_cells, n));
+    lengths[3] = CHACHAQOM_ANSWER_LENGTH;
+    if (once_in(12))
+        size = once_in(2) ? off_by_one(n) : hostile_size(n);
+    if (size == MOST && once_in(2)) {
+        lengths[0] = size * CHACHAQOM_NUMBER_LENGTH;
+        lengths[1] = size * size;
+    }
+    if (once_in(12)) {
+        size_t which = below(3);
+
+        which = which == 2 ? 3 : which;
+        lengths[which] = hostile_length(lengths[which]);
+    }
+    lend_given(lengths);
+    return compare_write(size);
 }
 
 /* ---- runs ---- */
@@ -822,31 +1088,52 @@ static int compare_input(uint64_t seed, uint64_t input)
     current_seed = seed;
     current_input = input;
     start_random(seed, input);
-    return once_in(2) ? compare_matrix() : compare_scene();
+    switch (below(3)) {
+    case 0:
+        return compare_matrix();
+    case 1:
+        return compare_scene();
+    default:
+        return compare_given();
+    }
 }
 
-/* Every number that the calls can answer has occurred: else the comparison is blind to some. */
+/* The calls, and the numbers that each can answer; -1 ends the list. */
+static const char *const call_names[CALLS] = { "refine", "read", "write" };
+static const int answerable[CALLS][NUMBERS] = {
+    { 0, 1, 2, 21, 22, 23, -1 },
+    { 0, 1, 2, 3, 4, 5, 6, 7, 8, 9, 10, 11, -1 },
+    { 0, 1, 2, 3, 6, 7, 10, 12, -1 }
+};
+
+/* Every number that a call can answer has occurred: else the comparison is blind to some. */
 static int all_numbers_seen(void)
 {
-    int number, all = 1;
+    int call, all = 1;
+    const int *number;
 
-    for (number = CHACHAQOM_ACCEPTED; number < NUMBERS; number++)
-        if ((number <= CHACHAQOM_AFTER_END || number >= CHACHAQOM_NODE) && seen[number] == 0) {
-            printf("compare: no input was answered %d\n", number);
-            all = 0;
-        }
+    for (call = 0; call < CALLS; call++)
+        for (number = answerable[call]; *number >= 0; number++)
+            if (seen[call][*number] == 0) {
+                printf("compare: no input of %s was answered %d\n", call_names[call], *number);
+                all = 0;
+            }
     return all;
 }
 
 static void print_seen(void)
 {
-    int number;
+    int call, number;
 
-    printf("compare: answered (number: times)");
-    for (number = 0; number < NUMBERS; number++)
-        if (seen[number] > 0)
-            printf(" %d: %" PRIu64, number, seen[number]);
-    printf("; at most %" PRIu32 " rounds\n", longest_rounds);
+    for (call = 0; call < CALLS; call++) {
+        printf("compare: %s answered (number: times)", call_names[call]);
+        for (number = 0; number < NUMBERS; number++)
+            if (seen[call][number] > 0)
+                printf(" %d: %" PRIu64, number, seen[call][number]);
+        printf("\n");
+    }
+    printf("compare: at most %" PRIu32 " rounds, %" PRIu64 " written scenes read back\n",
+           longest_rounds, read_back);
 }
 
 static int run(uint64_t seed, uint64_t count, uint64_t first)

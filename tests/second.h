@@ -34,6 +34,30 @@ enum {
     SECOND_FAULT_LEFTOVER_BEFORE_NO_REGION,
     SECOND_FAULT_LEFTOVER_PLACE_OFF_BY_ONE,
     SECOND_FAULT_READING_AREAS_UNCLEARED,
+    SECOND_FAULT_WRITING_REGIONS_TAKEN_AS_A_BYTE,
+    SECOND_FAULT_WRITING_LENGTH_BEFORE_RANGE,
+    SECOND_FAULT_EVERY_ZERO_BEFORE_TWICE,
+    SECOND_FAULT_EVERY_TWICE_BEFORE_ZERO,
+    SECOND_FAULT_EARLIER_TWIN_NAMED,
+    SECOND_FAULT_EMPTY_CELL_BEFORE_IDENTIFIERS,
+    SECOND_FAULT_EMPTY_CELL_IN_COLUMN_ORDER,
+    SECOND_FAULT_EMPTY_CELL_BY_COLUMN_AND_ROW,
+    SECOND_FAULT_LENGTH_OF_ALL_CELLS,
+    SECOND_FAULT_WRITING_LIMIT_A_RECORD_LOWER,
+    SECOND_FAULT_NO_ROOM_BEFORE_TOO_LONG,
+    SECOND_FAULT_NO_ROOM_OFF_BY_ONE,
+    SECOND_FAULT_NO_ROOM_WITHOUT_THE_END,
+    SECOND_FAULT_NO_ROOM_WITH_THE_LENGTH,
+    SECOND_FAULT_BYTE_WRITTEN_BEFORE_A_REFUSAL,
+    SECOND_FAULT_WRITING_WHAT_FITS,
+    SECOND_FAULT_BUFFER_CLEARED_BEHIND,
+    SECOND_FAULT_REGIONS_ANSWERED_BY_WRITING,
+    SECOND_FAULT_STATEMENTS_IN_COLUMN_ORDER,
+    SECOND_FAULT_STATEMENTS_BEFORE_REGIONS,
+    SECOND_FAULT_DIAGONAL_LEFT_OUT,
+    SECOND_FAULT_LAST_CELL_LEFT_OUT,
+    SECOND_FAULT_WRITTEN_THE_OTHER_WAY,
+    SECOND_FAULT_UNIVERSAL_STATED_TOO,
     SECOND_FAULTS
 };
 
@@ -52,5 +76,10 @@ uint32_t second_read(const uint8_t *scene, size_t scene_length,
                      uint8_t *identifiers, size_t identifiers_length,
                      uint8_t *cells, size_t cells_length,
                      uint8_t *answer, size_t answer_length);
+
+uint32_t second_write(size_t n, const uint8_t *identifiers, size_t identifiers_length,
+                      const uint8_t *cells, size_t cells_length,
+                      uint8_t *buffer, size_t buffer_length,
+                      uint8_t *answer, size_t answer_length);
 
 #endif
