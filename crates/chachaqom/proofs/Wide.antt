@@ -53,7 +53,8 @@ read-back a f = record {
 
 -- ---- refining
 
-named-fits : {n number i k j count : ℕ} → n ≤ 64 → Names n number i k j count → Fits (refinement.answered (refinement.refused number i k j count))
+named-fits : {n number i k j count : ℕ} → n ≤ 64 → Names n number i k j count
+    → Fits (refinement.answered (refinement.refused number i k j count))
 named-fits few (a-region e r) = omega arith
 named-fits few (a-pair e r) = omega arith
 named-fits {n} few (a-triple e r) = omega (arith, most-rounds-le n few)
@@ -71,7 +72,8 @@ refined-fits n cells first second byte =
 -- ---- reading
 
 -- a refused record is named at a byte of the scene, or at its length
-named-within : {scene identifiers : List ℕ} {at number place : ℕ} → at ≤ length scene → Reason scene identifiers at (refused number place)
+named-within : {scene identifiers : List ℕ} {at number place : ℕ} → at ≤ length scene
+    → Reason scene identifiers at (refused number place)
     → place ≤ length scene
 named-within h (no-byte l) = omega arith
 named-within h (unknown-kind l r s e) = h

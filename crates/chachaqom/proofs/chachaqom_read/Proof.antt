@@ -18,7 +18,12 @@ same-length : tie.Need-same-length
 same-length c = search needs
 
 returns-2 : tie.Need-returns-2
-returns-2 c = read-unlent (c .before .before .before .before .before .before .if1 .left) (c .before .before .before .before .before .if2 .taken) (c .before .before .before .of-reading .ensures) (c .before .before .put .ensures)
+returns-2 c =
+    let at-put = c .before .before in
+    let at-of-reading = at-put .before in
+    let at-if2 = at-of-reading .before .before in
+    let at-if1 = at-if2 .before in
+    read-unlent (at-if1 .if1 .left) (at-if2 .if2 .taken) (at-of-reading .of-reading .ensures) (at-put .put .ensures)
 
 slice-aggregate-read : tie.Need-slice-aggregate-read
 slice-aggregate-read c = search needs
@@ -39,7 +44,15 @@ same-length-3 : tie.Need-same-length-3
 same-length-3 c = search needs
 
 returns-3 : tie.Need-returns-3
-returns-3 c = read-answered (c .before .before .before .before .before .before .before .before .before .before .before .before .before .before .if1 .left) (c .before .before .before .before .before .before .before .before .before .before .before .before .before .if2 .left) (c .before .before .before .before .before .before .before .before .before .before .read .ensures) (c .before .before .before .before .before .before .of-reading2 .ensures) (kept-at _ _ (c .before .before .before .before .if3 .taken)) (c .before .before .put2 .ensures)
+returns-3 c =
+    let at-put2 = c .before .before in
+    let at-if3 = at-put2 .before .before in
+    let at-of-reading2 = at-if3 .before .before in
+    let at-read = at-of-reading2 .before .before .before .before in
+    let at-if2 = at-read .before .before .before in
+    let at-if1 = at-if2 .before in
+    read-answered (at-if1 .if1 .left) (at-if2 .if2 .left) (at-read .read .ensures) (at-of-reading2 .of-reading2 .ensures)
+    (kept-at _ _ (at-if3 .if3 .taken)) (at-put2 .put2 .ensures)
 
 slice-aggregate-put-identifiers : tie.Need-slice-aggregate-put-identifiers
 slice-aggregate-put-identifiers c = search needs
@@ -60,7 +73,16 @@ same-length-6 : tie.Need-same-length-6
 same-length-6 c = search needs
 
 returns-4 : tie.Need-returns-4
-returns-4 c = read-answered (c .before .before .before .before .before .before .before .before .before .before .before .before .before .before .before .before .before .before .before .if1 .left) (c .before .before .before .before .before .before .before .before .before .before .before .before .before .before .before .before .before .before .if2 .left) (c .before .before .before .before .before .before .before .before .before .before .before .before .before .before .before .read .ensures) (c .before .before .before .before .before .before .before .before .before .before .before .of-reading2 .ensures) (written-past _ (c .before .before .before .before .before .before .before .before .before .if3 .left) (c .before .before .before .before .before .before .put-identifiers .ensures)) (c .before .before .put3 .ensures)
+returns-4 c =
+    let at-put3 = c .before .before in
+    let at-put-identifiers = at-put3 .before .before .before .before in
+    let at-if3 = at-put-identifiers .before .before .before in
+    let at-of-reading2 = at-if3 .before .before in
+    let at-read = at-of-reading2 .before .before .before .before in
+    let at-if2 = at-read .before .before .before in
+    let at-if1 = at-if2 .before in
+    read-answered (at-if1 .if1 .left) (at-if2 .if2 .left) (at-read .read .ensures) (at-of-reading2 .of-reading2 .ensures)
+    (written-past _ (at-if3 .if3 .left) (at-put-identifiers .put-identifiers .ensures)) (at-put3 .put3 .ensures)
 
 pub chachaqom-read-spec : {M : Type 1} → statement M
 chachaqom-read-spec =

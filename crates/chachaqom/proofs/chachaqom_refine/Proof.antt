@@ -26,7 +26,12 @@ same-length-3 : tie.Need-same-length-3
 same-length-3 c = search needs
 
 returns-2 : tie.Need-returns-2
-returns-2 c = refine-answered (c .before .before .before .before .before .before .before .before .before .before .before .before .if1 .left) (c .before .before .before .before .before .before .before .before .before .refine .ensures) (c .before .before .before .of-verdict .ensures) (c .before .before .put .ensures)
+returns-2 c =
+    let at-put = c .before .before in
+    let at-of-verdict = at-put .before in
+    let at-refine = at-of-verdict .before .before .before .before .before .before in
+    let at-if1 = at-refine .before .before .before in
+    refine-answered (at-if1 .if1 .left) (at-refine .refine .ensures) (at-of-verdict .of-verdict .ensures) (at-put .put .ensures)
 
 pub chachaqom-refine-spec : {M : Type 1} → statement M
 chachaqom-refine-spec =

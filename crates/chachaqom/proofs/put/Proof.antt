@@ -1,12 +1,6 @@
 -- `chachaqom::put` meets its contract: the low 32 bits of a number have its four bytes. Assumes nothing.
 use borrow.Author.Needs.{needs}
-use mathlib.Core.Path.{ap, _∙_}
-use mathlib.Core.Bool.{cond}
-use mathlib.Core.List.{List}
-use Prim.Native.Nat.{ℕ}
-use denote.Ref.{now}
-use Rattle.chachaqom.specs.Exports.{fits}
-use Rattle.chachaqom.proofs.Crossed.{crossing-answer}
+use Rattle.chachaqom.proofs.Crossed.{crossed-answer}
 use Rattle.chachaqom.proofs.put.Statement.{statement}
 use Rattle.chachaqom.proofs.put.Tie as tie
 
@@ -29,7 +23,13 @@ same-length : tie.Need-same-length
 same-length c = search needs
 
 returns : tie.Need-returns
-returns c = record { returned = search needs; inAnswer = c .before .before .put-answer .ensures ∙ ap (λ (b : List ℕ). cond (fits (now (c .before .before .before .before .before .before .before .before .before .args .answer))) b (now (c .before .before .before .before .before .before .before .before .before .args .answer))) (crossing-answer _ _ _ _ _ _ _ _ _ (c .before .before .before .before .before .before .before .crossing .ensures) (c .before .before .before .before .before .before .crossing2 .ensures) (c .before .before .before .before .before .crossing3 .ensures) (c .before .before .before .before .crossing4 .ensures)) }
+returns c =
+    let at-crossing4 = c .before .before .before .before in
+    let at-crossing3 = at-crossing4 .before in
+    let at-crossing2 = at-crossing3 .before in
+    let at-crossing = at-crossing2 .before in
+    crossed-answer (at-crossing .crossing .ensures) (at-crossing2 .crossing2 .ensures) (at-crossing3 .crossing3 .ensures)
+    (at-crossing4 .crossing4 .ensures) (c .before .before .put-answer .ensures)
 
 pub put-spec : {M : Type 1} → statement M
 put-spec =

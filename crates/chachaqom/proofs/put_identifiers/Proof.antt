@@ -35,7 +35,11 @@ loop-less : tie.Need-loop-less Inv-loop μ-loop
 loop-less c = search needs
 
 loop-again : tie.Need-loop-again Inv-loop μ-loop
-loop-again c = crossed-more _ (c .before .before .before .before .before .before .loop .inv) (omega arith) (c .before .before .before .before .before .before .before .before .before .pre .1) (c .before .before .put-number .ensures)
+loop-again c =
+    let at-put-number = c .before .before in
+    let at-loop = at-put-number .before .before .before .before in
+    let at-pre = at-loop .before .before .before in
+    crossed-more _ (at-loop .loop .inv) (omega arith) (at-pre .pre .1) (at-put-number .put-number .ensures)
 
 same-length : tie.Need-same-length Inv-loop μ-loop
 same-length c = omega (arith, c .before .loop .inv .long, c .before .before .before .before .pre .0)
