@@ -54,15 +54,20 @@ host: $(BUILD)/host $(BUILD)/host-in-c++
 	$(TOOLCHAIN) $$RUN $(BUILD)/host
 	$(TOOLCHAIN) $$RUN $(BUILD)/host-in-c++
 
-$(BUILD)/host: tests/host.c include/chachaqom.h $(ARCHIVE) | $(BUILD)
-	$(TOOLCHAIN) $$CC $(STRICT_C) -O1 -g tests/host.c $(ARCHIVE) -o $@
+HOST = $(wildcard tests/host/*.c)
+HOST_READS = $(HOST) tests/host/host.h include/chachaqom.h
 
-$(BUILD)/host-in-c++: tests/host.c include/chachaqom.h $(ARCHIVE) | $(BUILD)
-	$(TOOLCHAIN) $$CXX -std=c++11 $(WARNINGS) -Iinclude -O1 -g -x c++ tests/host.c -x none $(ARCHIVE) -o $@
+$(BUILD)/host: $(HOST_READS) $(ARCHIVE) | $(BUILD)
+	$(TOOLCHAIN) $$CC $(STRICT_C) -O1 -g $(HOST) $(ARCHIVE) -o $@
+
+$(BUILD)/host-in-c++: $(HOST_READS) $(ARCHIVE) | $(BUILD)
+	$(TOOLCHAIN) $$CXX -std=c++11 $(WARNINGS) -Iinclude -O1 -g -x c++ $(HOST) -x none $(ARCHIVE) -o $@
 
 # ---- comparison with the second program ----
 
-COMPARED = tests/compare.c tests/second.c
+SECOND = $(wildcard tests/second/*.c)
+COMPARED = $(wildcard tests/compare/*.c) $(SECOND)
+COMPARED_READS = $(COMPARED) $(wildcard tests/compare/*.h tests/second/*.h) include/chachaqom.h
 
 compare: $(BUILD)/compare
 	$(TOOLCHAIN) $$RUN $(BUILD)/compare
@@ -71,12 +76,12 @@ compare: $(BUILD)/compare
 fuzz: $(BUILD)/compare
 	$(TOOLCHAIN) $$RUN $(BUILD)/compare $(SEED) $(COUNT)
 
-$(BUILD)/compare: $(COMPARED) tests/second.h include/chachaqom.h $(ARCHIVE) | $(BUILD)
+$(BUILD)/compare: $(COMPARED_READS) $(ARCHIVE) | $(BUILD)
 	$(TOOLCHAIN) $$CC $(STRICT_C) -O2 $(COMPARED) $(ARCHIVE) -o $@
 
 sanitized: $(BUILD)/compare-sanitized
 
-$(BUILD)/compare-sanitized: $(COMPARED) tests/second.h include/chachaqom.h $(ARCHIVE) | $(BUILD)
+$(BUILD)/compare-sanitized: $(COMPARED_READS) $(ARCHIVE) | $(BUILD)
 	$(TOOLCHAIN) $$CC $(STRICT_C) $(SANITIZED) $(COMPARED) $(ARCHIVE) -o $@
 
 # ---- the example host ----

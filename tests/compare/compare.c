@@ -1,0 +1,126 @@
+/*
+ * compare.c: compares the library's calls with the second program on random, damaged and hostile
+ * inputs, byte by byte: what is returned, the answer, every lent area with the bytes before and
+ * behind it, and the inputs, which no call may write. What the library reads is written, and what
+ * it writes is read back.
+ *
+ *     compare [SEED [COUNT [FIRST]]]   compares inputs FIRST .. FIRST + COUNT - 1 of the seed
+ *     compare faults [SEED]            plants each fault of the second program and requires that
+ *                                      the comparison notices it
+ *
+ * An input depends on the seed and its own number alone, so that one can be made again by itself.
+ */
+#include "compare.h"
+
+enum {
+    DEFAULT_COUNT = 100000,
+    FAULT_BOUND = 20000,  /* inputs within which a planted fault must be noticed */
+    COVERED_FROM = 10000  /* from so many inputs on, each call must have given all its numbers */
+};
+
+#define DEFAULT_SEED UINT64_C(20231115)
+
+static struct call *const calls[] = { &refine_call, &read_call, &write_call };
+
+int quiet;
+uint64_t current_seed, current_input;
+
+static int compare_input(uint64_t seed, uint64_t input)
+{
+    current_seed = seed;
+    current_input = input;
+    start_random(seed, input);
+    return calls[below(COUNT_OF(calls))]->compare();
+}
+
+/* Every number that a call can answer has occurred: else the comparison is blind to some. */
+static int all_numbers_seen(const struct call *call)
+{
+    const int *number;
+    int all = 1;
+
+    for (number = call->answerable; *number >= 0; number++)
+        if (call->seen[*number] == 0) {
+            printf("compare: no input of %s was answered %d\n", call->name, *number);
+            all = 0;
+        }
+    return all;
+}
+
+static void print_seen(const struct call *call)
+{
+    int number;
+
+    printf("compare: %s answered (number: times)", call->name);
+    for (number = 0; number < NUMBERS; number++)
+        if (call->seen[number] > 0)
+            printf(" %d: %" PRIu64, number, call->seen[number]);
+    printf("; %s: %" PRIu64 "\n", call->counted, call->count);
+}
+
+static int run(uint64_t seed, uint64_t count, uint64_t first)
+{
+    uint64_t i, failed = 0;
+    size_t call;
+
+    printf("compare: seed %" PRIu64 "\n", seed);
+    for (i = 0; i < count && failed < 10; i++)
+        failed += !compare_input(seed, first + i);
+    for (call = 0; call < COUNT_OF(calls); call++) {
+        print_seen(calls[call]);
+        if (count >= COVERED_FROM && !all_numbers_seen(calls[call]))
+            failed++;
+    }
+    printf("compare: %" PRIu64 " inputs, %" PRIu64 " failed\n", i, failed);
+    return failed == 0 ? 0 : 1;
+}
+
+/* The number of inputs until the planted fault is noticed; 0 when it is not. */
+static uint64_t noticed_after(uint64_t seed)
+{
+    uint64_t i;
+
+    for (i = 0; i < FAULT_BOUND; i++)
+        if (!compare_input(seed, i))
+            return i + 1;
+    return 0;
+}
+
+static int run_faults(uint64_t seed)
+{
+    int fault, missed = 0;
+
+    printf("compare: seed %" PRIu64 ", planted faults\n", seed);
+    quiet = 1;
+    second_fault = SECOND_FAULT_NONE;
+    if (noticed_after(seed) != 0) {
+        printf("compare: a fault is noticed where none is planted\n");
+        return 1;
+    }
+    for (fault = SECOND_FAULT_NONE + 1; fault < SECOND_FAULTS; fault++) {
+        uint64_t after;
+
+        second_fault = fault;
+        after = noticed_after(seed);
+        if (after == 0)
+            missed++;
+        printf("  %s: %s %" PRIu64 "\n", second_fault_name(fault),
+               after == 0 ? "NOT NOTICED within" : "noticed at input",
+               after == 0 ? (uint64_t)FAULT_BOUND : after);
+    }
+    printf("compare: %d faults planted, %d not noticed\n", SECOND_FAULTS - 1, missed);
+    return missed == 0 ? 0 : 1;
+}
+
+static uint64_t argument(int argc, char **argv, int which, uint64_t otherwise)
+{
+    return argc > which ? strtoull(argv[which], NULL, 0) : otherwise;
+}
+
+int main(int argc, char **argv)
+{
+    if (argc > 1 && strcmp(argv[1], "faults") == 0)
+        return run_faults(argument(argc, argv, 2, DEFAULT_SEED));
+    return run(argument(argc, argv, 1, DEFAULT_SEED), argument(argc, argv, 2, DEFAULT_COUNT),
+               argument(argc, argv, 3, 0));
+}

@@ -1,0 +1,68 @@
+/*
+ * faults.h: the faults that can be planted in the second program, so that a comparison can be seen
+ * to fail: a list for each call, each fault with its name and its words.
+ */
+#ifndef SECOND_FAULTS_H
+#define SECOND_FAULTS_H
+
+#define FAULTS_OF_REFINE(FAULT) \
+    FAULT(UPDATING_WITHIN_A_ROUND, "updating cells within a round") \
+    FAULT(STOPPING_AFTER_ROUND_ONE, "stopping after round 1") \
+    FAULT(COUNTING_THE_CONFIRMING_ROUND, "counting the confirming round") \
+    FAULT(INTERSECTING_UNCONVERTED, "intersecting with the opposite cell unconverted") \
+    FAULT(ARC_BEFORE_NODE, "stopping at an empty cell off the diagonal in the node stage") \
+    FAULT(TRIPLE_IN_THE_AUTHORS_ORDER, "naming the triple in the author's order") \
+    FAULT(RUNNING_SET_FROM_UNIVERSAL, "starting the running set of a triple from 255") \
+    FAULT(WORK_AREA_UNCLEARED, "leaving a work area uncleared") \
+    FAULT(TAIL_BYTE_CLEARED, "clearing the byte behind the work area's cells too") \
+    FAULT(REGIONS_LIMIT_OFF_BY_ONE, "limit of n off by one") \
+    FAULT(REGIONS_TAKEN_AS_A_BYTE, "taking n as a byte") \
+    FAULT(LENGTH_BEFORE_RANGE, "judging lengths before n") \
+    FAULT(WORK_AREA_OF_EXACT_LENGTH, "asking for work areas of exactly the cells' length")
+
+#define FAULTS_OF_READ(FAULT) \
+    FAULT(SCENE_LIMIT_OFF_BY_ONE, "limit of the scene's length off by one") \
+    FAULT(TOO_MANY_BEFORE_TWICE, "refusing with 8 before 7") \
+    FAULT(SIXTY_FIFTH_REGION_OFF_BY_ONE, "limit of declared regions off by one") \
+    FAULT(ONLY_THE_SECOND_DECLARED, "looking up B and never A") \
+    FAULT(EMPTY_SET_BEFORE_NOT_DECLARED, "refusing with 10 before 9") \
+    FAULT(FILED_THE_OTHER_WAY, "filing a statement at (B, A)") \
+    FAULT(IDENTIFIER_TAKEN_AS_PLACE, "taking an identifier for a place") \
+    FAULT(LEFTOVER_BEFORE_NO_REGION, "refusing with 11 before 1") \
+    FAULT(LEFTOVER_PLACE_OFF_BY_ONE, "place of the bytes after End off by one") \
+    FAULT(READING_AREAS_UNCLEARED, "leaving the reader's areas uncleared")
+
+#define FAULTS_OF_WRITE(FAULT) \
+    FAULT(WRITING_REGIONS_TAKEN_AS_A_BYTE, "writing: taking n as a byte") \
+    FAULT(WRITING_LENGTH_BEFORE_RANGE, "writing: judging lengths before n") \
+    FAULT(EVERY_ZERO_BEFORE_TWICE, "writing: looking for 6 at all places before 7 at any") \
+    FAULT(EVERY_TWICE_BEFORE_ZERO, "writing: looking for 7 at all places before 6 at any") \
+    FAULT(EARLIER_TWIN_NAMED, "writing: naming the earlier twin") \
+    FAULT(EMPTY_CELL_BEFORE_IDENTIFIERS, "writing: refusing with 10 before 6 and 7") \
+    FAULT(EMPTY_CELL_IN_COLUMN_ORDER, "writing: looking for an empty cell in column order") \
+    FAULT(EMPTY_CELL_BY_COLUMN_AND_ROW, "writing: naming an empty cell's column before its row") \
+    FAULT(LENGTH_OF_ALL_CELLS, "writing: counting cells of 255 towards the limit") \
+    FAULT(WRITING_LIMIT_A_RECORD_LOWER, "writing: limit of the scene's length a record lower") \
+    FAULT(NO_ROOM_BEFORE_TOO_LONG, "writing: refusing with 12 before 3") \
+    FAULT(NO_ROOM_OFF_BY_ONE, "writing: refusing a buffer exactly as long as the scene") \
+    FAULT(NO_ROOM_WITHOUT_THE_END, "writing: leaving the end out of the length that 12 goes by") \
+    FAULT(NO_ROOM_WITH_THE_LENGTH, "writing: answering the scene's length with 12") \
+    FAULT(BYTE_WRITTEN_BEFORE_A_REFUSAL, "writing: a byte written before a refusal") \
+    FAULT(WRITING_WHAT_FITS, "writing: as much as fits written before 12") \
+    FAULT(BUFFER_CLEARED_BEHIND, "writing: clearing the buffer behind the scene") \
+    FAULT(REGIONS_ANSWERED_BY_WRITING, \
+          "writing: answering the region count in place of the length") \
+    FAULT(STATEMENTS_IN_COLUMN_ORDER, "writing: statements in column order") \
+    FAULT(STATEMENTS_BEFORE_REGIONS, "writing: each row's statements before the next region") \
+    FAULT(DIAGONAL_LEFT_OUT, "writing: the diagonal left out") \
+    FAULT(LAST_CELL_LEFT_OUT, "writing: the last cell left out") \
+    FAULT(WRITTEN_THE_OTHER_WAY, "writing: A and B swapped") \
+    FAULT(UNIVERSAL_STATED_TOO, "writing: 255 stated too")
+
+/* All of them; a new call adds its list here. */
+#define SECOND_FAULT_LIST(FAULT) \
+    FAULTS_OF_REFINE(FAULT) \
+    FAULTS_OF_READ(FAULT) \
+    FAULTS_OF_WRITE(FAULT)
+
+#endif

@@ -1,0 +1,48 @@
+/* inside.h: what the parts of the second program share. */
+#ifndef INSIDE_H
+#define INSIDE_H
+
+#include "second.h"
+
+#include <string.h>
+
+#define REGIONS 64
+#define SCENE_LENGTH 32768
+#define EQUAL 4
+#define UNIVERSAL 255
+
+int planted(int fault);
+
+/* What a call answers. */
+struct outcome {
+    uint32_t number;
+    uint32_t places[3];
+    uint32_t count;
+};
+
+struct outcome refused(uint32_t number, size_t i, size_t j, size_t k, size_t count);
+struct outcome accepted(size_t count);
+
+void put_number(uint8_t *bytes, uint32_t number);
+uint32_t get_number(const uint8_t *bytes);
+
+/* Lays the answer into 20 bytes; its number. */
+uint32_t put_answer(uint8_t *answer, struct outcome outcome);
+
+/* No number of regions. */
+int out_of_range(size_t n);
+
+uint8_t converse(uint8_t set);
+uint8_t compose(uint8_t a, uint8_t b);
+
+/* What a scene says: identifiers by place, and cells. */
+struct scene {
+    size_t count;
+    uint32_t identifier[REGIONS];
+    uint8_t cell[REGIONS][REGIONS];
+};
+
+/* The place of an identifier; the count of regions where it is not declared. */
+size_t find(const struct scene *s, uint32_t identifier);
+
+#endif
