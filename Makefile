@@ -84,6 +84,10 @@ sanitized: $(BUILD)/compare-sanitized
 $(BUILD)/compare-sanitized: $(COMPARED_READS) $(ARCHIVE) | $(BUILD)
 	$(TOOLCHAIN) $$CC $(STRICT_C) $(SANITIZED) $(COMPARED) $(ARCHIVE) -o $@
 
+# What the report program must print, by the second program.
+$(BUILD)/expected: tests/expected.c $(SECOND) $(wildcard tests/second/*.h) | $(BUILD)
+	$(TOOLCHAIN) $$CC $(STRICT_C) -O1 tests/expected.c $(SECOND) -o $@
+
 # ---- the example host ----
 
 editor: $(BUILD)/editor

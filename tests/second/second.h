@@ -35,4 +35,8 @@ uint32_t second_write(size_t n, const uint8_t *identifiers, size_t identifiers_l
                       uint8_t *buffer, size_t buffer_length,
                       uint8_t *answer, size_t answer_length);
 
+/* The report on a scene, as text; its length. Every report fits into so many bytes. */
+#define SECOND_REPORT_ROOM 65536
+size_t second_report(const uint8_t *scene, size_t scene_length, char *text);
+
 #endif
