@@ -168,6 +168,7 @@ if [ -z "$RUN" ]; then
     part "host under valgrind" valgrind -q --error-exitcode=9 $BUILD/host
     part "compare under sanitizers" $BUILD/compare-sanitized 7 4000
 fi
+part "signatures" python3 tests/signatures.py
 part "report" python3 tests/reports.py $RUN target/bin/report -- $RUN $BUILD/expected
 part "installed copy" installed
 part "editor" editor
