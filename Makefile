@@ -88,6 +88,10 @@ $(BUILD)/compare-sanitized: $(COMPARED_READS) $(ARCHIVE) | $(BUILD)
 $(BUILD)/expected: tests/expected.c $(SECOND) $(wildcard tests/second/*.h) | $(BUILD)
 	$(TOOLCHAIN) $$CC $(STRICT_C) -O1 tests/expected.c $(SECOND) -o $@
 
+# Bound at the start, so that the loader's own work is not measured.
+$(BUILD)/stack: tests/stack.c include/chachaqom.h $(ARCHIVE) | $(BUILD)
+	$(TOOLCHAIN) $$CC $(STRICT_C) -O1 -Wl,-z,now tests/stack.c $(ARCHIVE) -o $@
+
 # ---- the example host ----
 
 editor: $(BUILD)/editor

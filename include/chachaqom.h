@@ -44,7 +44,12 @@
  * length 0 is an empty array. Arrays marked const are never written. No byte outside of an array
  * is read or written, and bytes past those that a call is said to fill stay as they were. No call
  * allocates, keeps a pointer, or uses anything but its arguments: calls on different areas may run
- * side by side. What happens when two arrays of one call overlap is not promised.
+ * side by side. The arrays of one call must not overlap, a work area not even the input: C cannot
+ * check it, and nothing is promised where they do.
+ *
+ * Stack. A call uses at most the bytes of stack that CHACHAQOM_REFINE_STACK and its like say. They
+ * are measured on the largest inputs, accepted and refused, and rounded up; they are not proved. A
+ * loader that binds the C library's memcpy at its first call uses some of its own beside them.
  */
 #ifndef CHACHAQOM_H
 #define CHACHAQOM_H
@@ -88,6 +93,13 @@ enum {
     CHACHAQOM_REGION_LENGTH = 5,           /* a region record with its kind */
     CHACHAQOM_STATEMENT_LENGTH = 10,       /* a statement record with its kind */
     CHACHAQOM_END_LENGTH = 1               /* an end record, which is its kind */
+};
+
+/* Bytes of stack that a call uses at most. */
+enum {
+    CHACHAQOM_REFINE_STACK = 1024,
+    CHACHAQOM_READ_STACK = 1024,
+    CHACHAQOM_WRITE_STACK = 1024
 };
 
 /* Which number of an answer is which, for chachaqom_number. */
@@ -166,8 +178,10 @@ static inline uint32_t chachaqom_number(const uint8_t *numbers, size_t k)
  * 21, 22 and 23 leave the first n * n bytes of both work areas 0.
  *
  * Acceptance (0) leaves the refined network, row by row as cells, in the first n * n bytes of both
- * work areas. It has no empty set, equal throughout on the diagonal, and converse sets in opposite
- * cells. It does not promise that an arrangement of regions in the plane exists.
+ * work areas. It lies within the cells that were given, has no empty set, equal throughout on the
+ * diagonal, and converse sets in opposite cells; the set of i towards j lies within the composition
+ * of i towards k and k towards j, for every k; and it contains every other network of which all this
+ * holds. It does not promise that an arrangement of regions in the plane exists.
  *
  * Bytes of a work area from n * n on are never written. The answer's count is the number of rounds
  * that changed something; for 23 the number of the refusing round, from 1; else 0.

@@ -30,7 +30,7 @@ part() {
 # The programs are made anew, for the archive of this run; the parts below run them.
 build() {
     $MAKE target/bin/report $BUILD/host $BUILD/host-in-c++ $BUILD/compare $BUILD/expected \
-        $BUILD/editor &&
+        $BUILD/stack $BUILD/editor &&
         { [ -n "$RUN" ] || $MAKE sanitized; } &&
         echo "programs made"
 }
@@ -168,6 +168,7 @@ if [ -z "$RUN" ]; then
     part "host under valgrind" valgrind -q --error-exitcode=9 $BUILD/host
     part "compare under sanitizers" $BUILD/compare-sanitized 7 4000
 fi
+part "stack" $RUN $BUILD/stack
 part "signatures" python3 tests/signatures.py
 part "report" python3 tests/reports.py $RUN target/bin/report -- $RUN $BUILD/expected
 part "installed copy" installed
