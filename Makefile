@@ -21,6 +21,7 @@ COUNT ?= 1000000
 ARCHIVE ?= target/staticlib/libchachaqom.a
 
 BUILD = target/c
+HEADERS = include/chachaqom.h include/chachaqom_text.h
 TOOLCHAIN = . tests/toolchain.sh &&
 WARNINGS = -Wall -Wextra -Wpedantic -Werror
 STRICT_C = -std=c99 $(WARNINGS) -Iinclude
@@ -88,6 +89,13 @@ $(BUILD)/compare-sanitized: $(COMPARED_READS) $(ARCHIVE) | $(BUILD)
 $(BUILD)/expected: tests/expected.c $(SECOND) $(wildcard tests/second/*.h) | $(BUILD)
 	$(TOOLCHAIN) $$CC $(STRICT_C) -O1 tests/expected.c $(SECOND) -o $@
 
+# The words for authors, which need no archive.
+$(BUILD)/text: tests/text.c $(HEADERS) | $(BUILD)
+	$(TOOLCHAIN) $$CC $(STRICT_C) -O1 tests/text.c -o $@
+
+$(BUILD)/text-in-c++: tests/text.c $(HEADERS) | $(BUILD)
+	$(TOOLCHAIN) $$CXX -std=c++11 $(WARNINGS) -Iinclude -O1 -x c++ tests/text.c -o $@
+
 # Bound at the start, so that the loader's own work is not measured.
 $(BUILD)/stack: tests/stack.c include/chachaqom.h $(ARCHIVE) | $(BUILD)
 	$(TOOLCHAIN) $$CC $(STRICT_C) -O1 -Wl,-z,now tests/stack.c $(ARCHIVE) -o $@
@@ -96,7 +104,7 @@ $(BUILD)/stack: tests/stack.c include/chachaqom.h $(ARCHIVE) | $(BUILD)
 
 editor: $(BUILD)/editor
 
-$(BUILD)/editor: examples/editor.c include/chachaqom.h $(ARCHIVE) | $(BUILD)
+$(BUILD)/editor: examples/editor.c $(HEADERS) $(ARCHIVE) | $(BUILD)
 	$(TOOLCHAIN) $$CC $(STRICT_C) -O2 examples/editor.c $(ARCHIVE) -o $@
 
 # ---- times ----
@@ -121,7 +129,7 @@ $(BUILD)/bench: $(BENCHED) bench/plain.rs bench/refiners.h bench/relations.h inc
 install: $(ARCHIVE)
 	install -d "$(DESTDIR)$(PREFIX)/lib/pkgconfig" "$(DESTDIR)$(PREFIX)/include"
 	install -m 644 $(ARCHIVE) "$(DESTDIR)$(PREFIX)/lib/libchachaqom.a"
-	install -m 644 include/chachaqom.h "$(DESTDIR)$(PREFIX)/include/chachaqom.h"
+	install -m 644 include/chachaqom.h include/chachaqom_text.h "$(DESTDIR)$(PREFIX)/include"
 	sed -e 's|@PREFIX@|$(abspath $(PREFIX))|' -e 's|@VERSION@|$(VERSION)|' chachaqom.pc.in \
 		> "$(DESTDIR)$(PREFIX)/lib/pkgconfig/chachaqom.pc"
 

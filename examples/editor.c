@@ -12,6 +12,7 @@
  * cannot be read or written.
  */
 #include "chachaqom.h"
+#include "chachaqom_text.h"
 
 #include <inttypes.h>
 #include <stdio.h>
@@ -36,24 +37,6 @@ static uint32_t identifier(size_t place)
 
 /* ---- a scene that is accepted ---- */
 
-static void print_set(uint8_t set)
-{
-    static const char *const names[] = { "disjoint", "meet", "equal", "inside",
-                                         "coveredBy", "contains", "covers", "overlap" };
-    const char *between = "";
-    size_t relation;
-
-    if (set == CHACHAQOM_UNIVERSAL) {
-        printf("any relation");
-        return;
-    }
-    for (relation = 0; relation < sizeof names / sizeof names[0]; relation++)
-        if (set & 1u << relation) {
-            printf("%s%s", between, names[relation]);
-            between = " or ";
-        }
-}
-
 static void print_network(size_t n)
 {
     uint32_t rounds = chachaqom_number(answer, CHACHAQOM_ANSWER_COUNT);
@@ -63,60 +46,30 @@ static void print_network(size_t n)
            rounds == 1 ? "" : "s");
     for (i = 0; i < n; i++)
         for (j = i + 1; j < n; j++) {
-            printf("%" PRIu32 " ", identifier(i));
-            print_set(network[i * n + j]);
-            printf(" %" PRIu32 "\n", identifier(j));
+            char words[CHACHAQOM_TEXT_LENGTH];
+
+            chachaqom_set_in_words(network[i * n + j], words, sizeof words);
+            printf("%" PRIu32 " %s %" PRIu32 "\n", identifier(i), words, identifier(j));
         }
 }
 
-/* ---- a scene whose statements contradict each other ---- */
+/* ---- refusals ---- */
 
-static void print_contradiction(uint32_t number)
+/* Says what is wrong, with the identifiers that the sentence names. */
+static void print_sentence(const char *sentence, uint32_t x, uint32_t y, uint32_t z)
 {
-    uint32_t named[3];
-    size_t k;
+    char words[CHACHAQOM_TEXT_LENGTH];
 
-    for (k = 0; k < 3; k++)
-        named[k] = identifier(chachaqom_number(answer, CHACHAQOM_ANSWER_PLACES + k));
-    if (number == CHACHAQOM_NODE)
-        printf("Refused: what is stated of region %" PRIu32 " towards itself does not let it be equal "
-               "to itself.\n", named[0]);
-    else if (number == CHACHAQOM_ARC)
-        printf("Refused: what is stated between region %" PRIu32 " and region %" PRIu32 " leaves no "
-               "relation that fits both ways.\n", named[0], named[1]);
-    else
-        printf("Refused: no relation of region %" PRIu32 " towards region %" PRIu32 " is left when it "
-               "must also fit by way of region %" PRIu32 ".\n", named[0], named[2], named[1]);
+    chachaqom_fill(sentence, x, y, z, words, sizeof words);
+    printf("%s\n", words);
 }
 
-/* ---- a scene that cannot be read ---- */
-
-static const char *reason(uint32_t number)
+/* The identifier of the region that the answer names first, second or third. */
+static uint32_t named(size_t which)
 {
-    switch (number) {
-    case CHACHAQOM_OUT_OF_RANGE:
-        return "the scene ends and has declared no region";
-    case CHACHAQOM_TOO_LONG:
-        return "the scene is longer than this";
-    case CHACHAQOM_CUT_SHORT:
-        return "the scene is cut short";
-    case CHACHAQOM_UNKNOWN_KIND:
-        return "no record starts with this byte";
-    case CHACHAQOM_IDENTIFIER_ZERO:
-        return "a region is declared with the identifier 0";
-    case CHACHAQOM_IDENTIFIER_TWICE:
-        return "this identifier is declared a second time";
-    case CHACHAQOM_TOO_MANY_REGIONS:
-        return "this region is one more than 64";
-    case CHACHAQOM_NOT_DECLARED:
-        return "the statement speaks of a region that is not declared before it";
-    case CHACHAQOM_SET_EMPTY:
-        return "the statement allows no relation at all";
-    case CHACHAQOM_AFTER_END:
-        return "there are bytes after the end of the scene";
-    default:
-        return "the scene was not read";
-    }
+    uint32_t place = chachaqom_number(answer, CHACHAQOM_ANSWER_PLACES + which);
+
+    return place < regions ? identifier(place) : 0;
 }
 
 /* How long the refused record is when none of it is missing. */
@@ -134,8 +87,11 @@ static size_t record_length(uint32_t number, uint8_t kind)
 static void print_refused_record(uint32_t number)
 {
     size_t place = chachaqom_number(answer, CHACHAQOM_ANSWER_PLACES), length, i;
+    int has_identifier = number == CHACHAQOM_IDENTIFIER_TWICE;
 
-    printf("Refused: byte %zu: %s.\n", place, reason(number));
+    printf("Refused at byte %zu. ", place);
+    print_sentence(chachaqom_read_sentence(number),
+                   has_identifier ? chachaqom_number(scene + place + 1, 0) : 0, 0, 0);
     if (number == CHACHAQOM_TOO_LONG || place == scene_length)
         return;
     length = record_length(number, scene[place]);
@@ -163,7 +119,8 @@ static int show_scene(void)
     number = chachaqom_refine(n, cells, n * n, network, sizeof network, work, sizeof work,
                               answer, sizeof answer);
     if (number != CHACHAQOM_ACCEPTED) {
-        print_contradiction(number);
+        printf("Refused. ");
+        print_sentence(chachaqom_refine_sentence(number), named(0), named(1), named(2));
         return REFUSED;
     }
     print_network(n);
@@ -171,38 +128,6 @@ static int show_scene(void)
 }
 
 /* ---- saving ---- */
-
-/*
- * What an author is told when a scene is not written. A scene just read and accepted has no empty
- * cell and is not longer when it is written; an editor that changes cells meets 10 and 3 too.
- */
-static void print_failed_save(uint32_t number)
-{
-    uint32_t first = chachaqom_number(answer, CHACHAQOM_ANSWER_PLACES);
-    uint32_t second = chachaqom_number(answer, CHACHAQOM_ANSWER_PLACES + 1);
-
-    printf("Not saved: ");
-    switch (number) {
-    case CHACHAQOM_IDENTIFIER_ZERO:
-        printf("region number %" PRIu32 " of the scene has the identifier 0.\n", first + 1);
-        break;
-    case CHACHAQOM_IDENTIFIER_TWICE:
-        printf("two regions have the identifier %" PRIu32 ".\n", identifier(first));
-        break;
-    case CHACHAQOM_SET_EMPTY:
-        printf("what is stated of region %" PRIu32 " towards region %" PRIu32 " allows no relation "
-               "at all.\n", identifier(first), identifier(second));
-        break;
-    case CHACHAQOM_TOO_LONG:
-        printf("the scene would be longer than %" PRIu32 " bytes; it must state less.\n", first);
-        break;
-    case CHACHAQOM_NO_ROOM:
-        printf("this editor has too little room for the scene.\n");
-        break;
-    default:
-        printf("the scene was not written.\n");
-    }
-}
 
 static int store(const char *name, const uint8_t *bytes, size_t length)
 {
@@ -215,7 +140,7 @@ static int store(const char *name, const uint8_t *bytes, size_t length)
     return fclose(file) == 0 && stored;
 }
 
-/* The scene is written before the file is opened: one that is refused leaves the file as it was. */
+/* The scene is written before any file is opened: one that is refused leaves the file as it was. */
 static int save(const char *name)
 {
     static uint8_t buffer[CHACHAQOM_SCENE_LIMIT];
@@ -224,7 +149,8 @@ static int save(const char *name)
                                       buffer, sizeof buffer, answer, sizeof answer);
 
     if (number != CHACHAQOM_ACCEPTED) {
-        print_failed_save(number);
+        printf("Not saved. ");
+        print_sentence(chachaqom_write_sentence(number), named(0), named(1), named(2));
         return REFUSED;
     }
     length = chachaqom_number(answer, CHACHAQOM_ANSWER_COUNT);

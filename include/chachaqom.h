@@ -147,9 +147,11 @@ enum {
 static inline uint32_t chachaqom_number(const uint8_t *numbers, size_t k)
 {
     const uint8_t *bytes = numbers + k * CHACHAQOM_NUMBER_LENGTH;
+    uint32_t number = bytes[0];
 
-    return (uint32_t)bytes[0] << 24 | (uint32_t)bytes[1] << 16 | (uint32_t)bytes[2] << 8
-           | (uint32_t)bytes[3];
+    number = number << 8 | bytes[1];
+    number = number << 8 | bytes[2];
+    return number << 8 | bytes[3];
 }
 
 /*

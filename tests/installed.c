@@ -1,5 +1,6 @@
 /* installed.c: a host of a few lines, built against an installed copy by way of pkg-config. */
 #include <chachaqom.h>
+#include <chachaqom_text.h>
 
 #include <stdio.h>
 
@@ -11,7 +12,9 @@ int main(void)
     uint32_t number = chachaqom_refine(2, cells, sizeof cells, first, sizeof first,
                                        second, sizeof second, answer, sizeof answer);
     int right = number == CHACHAQOM_ACCEPTED && first[2] == CHACHAQOM_CONTAINS;
+    char words[CHACHAQOM_TEXT_LENGTH];
 
-    printf("installed: %s\n", right ? "the converse of inside is contains" : "wrong");
+    chachaqom_set_in_words(first[2], words, sizeof words);
+    printf("installed: %s %s\n", right ? "the converse of inside is" : "wrong:", words);
     return right ? 0 : 1;
 }
