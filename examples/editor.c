@@ -8,15 +8,22 @@
  *     editor SCENE OUT           and saves it to OUT
  *     editor SCENE OUT OLD NEW   and saves it with region OLD renamed to NEW
  *
- * Exit status: 0 accepted, and saved; 1 refused, or not saved; 2 not used rightly, or a file that
- * cannot be read or written.
+ * Saving replaces OUT whole or not at all; OUT may be SCENE. Exit status: 0 accepted, and saved; 1
+ * refused, or not saved; 2 not used rightly, or a file or the output that cannot be read or written.
  */
+#define _XOPEN_SOURCE 700
+
 #include "chachaqom.h"
 #include "chachaqom_text.h"
 
+#include <errno.h>
 #include <inttypes.h>
+#include <limits.h>
+#include <signal.h>
 #include <stdio.h>
 #include <stdlib.h>
+#include <sys/stat.h>
+#include <unistd.h>
 
 enum { ACCEPTED, REFUSED, UNUSABLE };
 
@@ -129,15 +136,79 @@ static int show_scene(void)
 
 /* ---- saving ---- */
 
+/* The mode that a file of this name has, or a new one would have; false for what is no file. */
+static int mode_of(const char *name, mode_t *mode)
+{
+    struct stat found;
+    mode_t mask = umask(0);
+
+    umask(mask);
+    *mode = 0666 & ~mask;
+    if (stat(name, &found) != 0)
+        return 1;
+    *mode = found.st_mode & 07777;
+    return S_ISREG(found.st_mode);
+}
+
+static int put_all(int file, const uint8_t *bytes, size_t length)
+{
+    while (length > 0) {
+        ssize_t written = write(file, bytes, length);
+
+        if (written < 0 && errno != EINTR)
+            return 0;
+        if (written > 0) {
+            bytes += written;
+            length -= (size_t)written;
+        }
+    }
+    return 1;
+}
+
+/* Writes the bytes, waits until they are on the device, and closes the file. */
+static int fill_file(int file, const uint8_t *bytes, size_t length, mode_t mode)
+{
+    int whole = put_all(file, bytes, length) && fchmod(file, mode) == 0 && fsync(file) == 0;
+    int error = errno;
+
+    if (close(file) != 0)
+        return 0;
+    errno = error;
+    return whole;
+}
+
+/*
+ * Replaces the file by one with these bytes. They go to a new file beside it, which takes its name
+ * once it is whole: whatever fails before that leaves the old file byte for byte.
+ */
 static int store(const char *name, const uint8_t *bytes, size_t length)
 {
-    FILE *file = fopen(name, "wb");
-    int stored;
+    char beside[PATH_MAX];
+    mode_t mode;
+    int file, error;
 
-    if (file == NULL)
+    if (!mode_of(name, &mode)
+        || snprintf(beside, sizeof beside, "%s.XXXXXX", name) >= (int)sizeof beside) {
+        errno = EINVAL;
         return 0;
-    stored = fwrite(bytes, 1, length, file) == length;
-    return fclose(file) == 0 && stored;
+    }
+    file = mkstemp(beside);
+    if (file < 0)
+        return 0;
+    if (fill_file(file, bytes, length, mode) && rename(beside, name) == 0)
+        return 1;
+    error = errno;
+    unlink(beside);
+    errno = error;
+    return 0;
+}
+
+/* The path of the file itself where the name is a link, so that the link stays one. */
+static const char *behind_links(const char *name)
+{
+    static char path[PATH_MAX];
+
+    return realpath(name, path) != NULL ? path : name;
 }
 
 /* The scene is written before any file is opened: one that is refused leaves the file as it was. */
@@ -154,7 +225,7 @@ static int save(const char *name)
         return REFUSED;
     }
     length = chachaqom_number(answer, CHACHAQOM_ANSWER_COUNT);
-    if (!store(name, buffer, length)) {
+    if (!store(behind_links(name), buffer, length)) {
         perror(name);
         return UNUSABLE;
     }
@@ -210,14 +281,11 @@ static int load(const char *name)
     return !failed;
 }
 
-int main(int argc, char **argv)
+/* Shows the scene, and saves it where a name is given, with a region renamed where two are. */
+static int edit(int argc, char **argv)
 {
     int status;
 
-    if (argc != 2 && argc != 3 && argc != 5) {
-        fprintf(stderr, "usage: editor SCENE [OUT [OLD NEW]]\n");
-        return UNUSABLE;
-    }
     if (!load(argv[1])) {
         perror(argv[1]);
         return UNUSABLE;
@@ -230,4 +298,21 @@ int main(int argc, char **argv)
         return UNUSABLE;
     }
     return save(argv[2]);
+}
+
+int main(int argc, char **argv)
+{
+    int status;
+
+    if (argc != 2 && argc != 3 && argc != 5) {
+        fprintf(stderr, "usage: editor SCENE [OUT [OLD NEW]]\n");
+        return UNUSABLE;
+    }
+    signal(SIGXFSZ, SIG_IGN); /* a file that gets too long is then an error like any other */
+    status = edit(argc, argv);
+    if (fflush(stdout) != 0 || ferror(stdout)) {
+        perror("editor: standard output");
+        return UNUSABLE;
+    }
+    return status;
 }

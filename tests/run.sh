@@ -64,4 +64,5 @@ part "report" python3 tests/reports.py $RUN target/bin/report -- $RUN $BUILD/exp
 part "installed copy" installed
 part "editor" editor
 part "saving" saving
+part "nothing lost" nothing_lost
 part "scene tool" scenes
