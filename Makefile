@@ -41,7 +41,7 @@ target/staticlib/libchachaqom.a: crates.txt $(shell find crates -name '*.rt' 2> 
 # ---- the report program ----
 
 report: target/bin/report
-	@$(TOOLCHAIN) $$RUN target/bin/report < $(SCENE)
+	@tools/report < "$(SCENE)" || [ $$? -eq 1 ]
 
 target/bin/report: crates.txt $(shell find crates -name '*.rt' 2> /dev/null)
 	rt check report

@@ -7,7 +7,7 @@
 set -u
 cd "$(dirname "$0")/.." || exit 1
 . tests/toolchain.sh
-for sourced in same editor scene; do
+for sourced in same report editor scene; do
     . "tests/parts/$sourced.sh"
 done
 
@@ -61,6 +61,7 @@ part "signatures" python3 tests/signatures.py
 part "words in C" $RUN $BUILD/text
 part "words in C++" $RUN $BUILD/text-in-c++
 part "report" python3 tests/reports.py $RUN target/bin/report -- $RUN $BUILD/expected
+part "report as a program" report_as_a_program
 part "installed copy" installed
 part "editor" editor
 part "saving" saving
