@@ -66,4 +66,4 @@ part "installed copy" installed
 part "editor" editor
 part "saving" saving
 part "nothing lost" nothing_lost
-part "scene tool" scenes
+part "scene tool" scene_tool
