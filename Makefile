@@ -1,50 +1,78 @@
 # Chachaqom: the library for a host in C, its tests, and what is measured.
 #
 #   make report SCENE=..               the report on a scene
-#   make library                       the archive, proved and compiled: target/staticlib/libchachaqom.a
+#   make library                       the archive and the shared library, proved and compiled
 #   make test                          everything that is proved and tested
 #   make host                          the library's calls checked from C and from C++
 #   make compare                       the library compared with the second program, and with its faults
 #   make fuzz SEED=.. COUNT=..         the same comparison on other inputs
 #   make bench                         times beside other refinements
-#   make editor                        the example host: target/c/editor SCENE [OUT]
-#   make install PREFIX=..             archive, header and pkg-config file
-#   make clean                         removes what this file built
+#   make edit SCENE=.. [OUT=..]        the example host: shows a scene, and saves it to OUT
+#   make install PREFIX=..             libraries, headers, tools, manual pages and pkg-config file
+#   make uninstall PREFIX=..           takes them away again
+#   make clean                         removes all that was made
+#   make help                          this list
 #
 # ARCHIVE=.. names another archive than the one that `make library` makes.
 
-VERSION = 1.0.0
-PREFIX ?= /usr/local
 SCENE ?= examples/sector.scene
+OUT ?=
+PREFIX ?= /usr/local
+DESTDIR ?=
 SEED ?= 1
 COUNT ?= 1000000
 ARCHIVE ?= target/staticlib/libchachaqom.a
 
+# What a user gives reaches the recipes through the environment, as it was given: none of it is read as
+# make's or the shell's own words.
+override SCENE := $(value SCENE)
+override OUT := $(value OUT)
+override PREFIX := $(value PREFIX)
+override DESTDIR := $(value DESTDIR)
+override SEED := $(value SEED)
+override COUNT := $(value COUNT)
+export SCENE OUT PREFIX DESTDIR SEED COUNT
+
+VERSION := $(shell sed -n 's/^.define CHACHAQOM_VERSION "\(.*\)"/\1/p' include/chachaqom.h)
 BUILD = target/c
+PROGRAM = target/bin/report
+SHARED = $(BUILD)/libchachaqom.so.1
 HEADERS = include/chachaqom.h include/chachaqom_text.h
 TOOLCHAIN = . tests/toolchain.sh &&
 WARNINGS = -Wall -Wextra -Wpedantic -Werror
 STRICT_C = -std=c99 $(WARNINGS) -Iinclude
+STRICT_CXX = -std=c++11 $(WARNINGS) -Iinclude
 SANITIZED = -g -O1 -fsanitize=address,undefined -fno-sanitize-recover=all
 
 # A static library of Rust is linked with these; the list is rustc's own (--print native-static-libs).
 RUST_LIBRARIES = -lgcc_s -lutil -lrt -lpthread -lm -ldl -lc
 
-.PHONY: report library test host compare fuzz bench editor sanitized install clean
+.PHONY: library report test host compare fuzz sanitized edit bench install uninstall clean help
+.DELETE_ON_ERROR:
 
-library:
-	rt staticlib chachaqom
+# ---- what is proved and compiled ----
 
-target/staticlib/libchachaqom.a: crates.txt $(shell find crates -name '*.rt' 2> /dev/null)
-	rt staticlib chachaqom
+library: $(ARCHIVE) $(SHARED)
 
-# ---- the report program ----
+# All that the prover reads: every file and folder of the crates, so that one that went is noticed too, and the kit.
+KIT = $(patsubst %/bin/rt,%,$(realpath $(shell command -v rt 2> /dev/null)))
+PROVED = crates.txt $(shell find crates -name must-fail -prune -o -print) $(wildcard $(KIT)/KIT-ID)
 
-report: target/bin/report
-	@tools/report < "$(SCENE)" || [ $$? -eq 1 ]
+target/staticlib/libchachaqom.a: $(PROVED)
+	@tools/prove staticlib chachaqom
+	@touch $@
 
-target/bin/report: crates.txt $(shell find crates -name '*.rt' 2> /dev/null)
-	rt check report
+$(PROGRAM): $(PROVED)
+	@tools/prove check report
+	@touch $@
+
+$(SHARED): $(ARCHIVE) chachaqom.map | $(BUILD)
+	$(TOOLCHAIN) $$CC -shared -Wl,-soname,libchachaqom.so.1 -Wl,--version-script=chachaqom.map -Wl,-z,defs \
+		-Wl,--whole-archive $(ARCHIVE) -Wl,--no-whole-archive -o $@
+
+# A refused scene is an answer too.
+report: $(PROGRAM)
+	@tools/report < "$$SCENE" || [ $$? -eq 1 ]
 
 test:
 	.ci/run
@@ -62,11 +90,23 @@ $(BUILD)/host: $(HOST_READS) $(ARCHIVE) | $(BUILD)
 	$(TOOLCHAIN) $$CC $(STRICT_C) -O1 -g $(HOST) $(ARCHIVE) -o $@
 
 $(BUILD)/host-in-c++: $(HOST_READS) $(ARCHIVE) | $(BUILD)
-	$(TOOLCHAIN) $$CXX -std=c++11 $(WARNINGS) -Iinclude -O1 -g -x c++ $(HOST) -x none $(ARCHIVE) -o $@
+	TOOLCHAIN_FOR=tests; $(TOOLCHAIN) $$CXX $(STRICT_CXX) -O1 -g -x c++ $(HOST) -x none $(ARCHIVE) -o $@
+
+# The words for authors, which need no archive.
+$(BUILD)/text: tests/text.c $(HEADERS) | $(BUILD)
+	$(TOOLCHAIN) $$CC $(STRICT_C) -O1 tests/text.c -o $@
+
+$(BUILD)/text-in-c++: tests/text.c $(HEADERS) | $(BUILD)
+	TOOLCHAIN_FOR=tests; $(TOOLCHAIN) $$CXX $(STRICT_CXX) -O1 -x c++ tests/text.c -o $@
+
+# Bound at the start, so that the loader's own work is not measured.
+$(BUILD)/stack: tests/stack.c include/chachaqom.h $(ARCHIVE) | $(BUILD)
+	$(TOOLCHAIN) $$CC $(STRICT_C) -O1 -Wl,-z,now tests/stack.c $(ARCHIVE) -o $@
 
 # ---- comparison with the second program ----
 
 SECOND = $(wildcard tests/second/*.c)
+SECOND_READS = $(SECOND) $(wildcard tests/second/*.h)
 COMPARED = $(wildcard tests/compare/*.c) $(SECOND)
 COMPARED_READS = $(COMPARED) $(wildcard tests/compare/*.h tests/second/*.h) include/chachaqom.h
 
@@ -75,7 +115,7 @@ compare: $(BUILD)/compare
 	$(TOOLCHAIN) $$RUN $(BUILD)/compare faults
 
 fuzz: $(BUILD)/compare
-	$(TOOLCHAIN) $$RUN $(BUILD)/compare $(SEED) $(COUNT)
+	@$(TOOLCHAIN) $$RUN $(BUILD)/compare "$$SEED" "$$COUNT"
 
 $(BUILD)/compare: $(COMPARED_READS) $(ARCHIVE) | $(BUILD)
 	$(TOOLCHAIN) $$CC $(STRICT_C) -O2 $(COMPARED) $(ARCHIVE) -o $@
@@ -86,23 +126,13 @@ $(BUILD)/compare-sanitized: $(COMPARED_READS) $(ARCHIVE) | $(BUILD)
 	$(TOOLCHAIN) $$CC $(STRICT_C) $(SANITIZED) $(COMPARED) $(ARCHIVE) -o $@
 
 # What the report program must print, by the second program.
-$(BUILD)/expected: tests/expected.c $(SECOND) $(wildcard tests/second/*.h) | $(BUILD)
+$(BUILD)/expected: tests/expected.c $(SECOND_READS) | $(BUILD)
 	$(TOOLCHAIN) $$CC $(STRICT_C) -O1 tests/expected.c $(SECOND) -o $@
-
-# The words for authors, which need no archive.
-$(BUILD)/text: tests/text.c $(HEADERS) | $(BUILD)
-	$(TOOLCHAIN) $$CC $(STRICT_C) -O1 tests/text.c -o $@
-
-$(BUILD)/text-in-c++: tests/text.c $(HEADERS) | $(BUILD)
-	$(TOOLCHAIN) $$CXX -std=c++11 $(WARNINGS) -Iinclude -O1 -x c++ tests/text.c -o $@
-
-# Bound at the start, so that the loader's own work is not measured.
-$(BUILD)/stack: tests/stack.c include/chachaqom.h $(ARCHIVE) | $(BUILD)
-	$(TOOLCHAIN) $$CC $(STRICT_C) -O1 -Wl,-z,now tests/stack.c $(ARCHIVE) -o $@
 
 # ---- the example host ----
 
-editor: $(BUILD)/editor
+edit: $(BUILD)/editor
+	@$(TOOLCHAIN) $$RUN $(BUILD)/editor "$$SCENE" $${OUT:+"$$OUT"} || [ $$? -eq 1 ]
 
 $(BUILD)/editor: examples/editor.c $(HEADERS) $(ARCHIVE) | $(BUILD)
 	$(TOOLCHAIN) $$CC $(STRICT_C) -O2 examples/editor.c $(ARCHIVE) -o $@
@@ -126,15 +156,17 @@ $(BUILD)/bench: $(BENCHED) bench/plain.rs bench/refiners.h bench/relations.h inc
 
 # ---- installation ----
 
-install: $(ARCHIVE)
-	install -d "$(DESTDIR)$(PREFIX)/lib/pkgconfig" "$(DESTDIR)$(PREFIX)/include"
-	install -m 644 $(ARCHIVE) "$(DESTDIR)$(PREFIX)/lib/libchachaqom.a"
-	install -m 644 include/chachaqom.h include/chachaqom_text.h "$(DESTDIR)$(PREFIX)/include"
-	sed -e 's|@PREFIX@|$(abspath $(PREFIX))|' -e 's|@VERSION@|$(VERSION)|' chachaqom.pc.in \
-		> "$(DESTDIR)$(PREFIX)/lib/pkgconfig/chachaqom.pc"
+install: $(ARCHIVE) $(SHARED) $(PROGRAM)
+	@VERSION=$(VERSION) ARCHIVE=$(ARCHIVE) SHARED=$(SHARED) PROGRAM=$(PROGRAM) tools/install
+
+uninstall:
+	@VERSION=$(VERSION) tools/install remove
 
 $(BUILD):
 	mkdir -p $@
 
 clean:
-	rm -rf $(BUILD)
+	rm -rf target
+
+help:
+	@sed -n 's/^#   //p' Makefile

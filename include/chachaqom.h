@@ -50,12 +50,24 @@
  * Stack. A call uses at most the bytes of stack that CHACHAQOM_REFINE_STACK and its like say. They
  * are measured on the largest inputs, accepted and refused, and rounded up; they are not proved. A
  * loader that binds the C library's memcpy at its first call uses some of its own beside them.
+ *
+ * Linking. libchachaqom.a and libchachaqom.so.1 are x86-64 ELF code for the System V calling
+ * convention (Linux), position independent. They need memcpy, memset and memmove, and nothing else.
+ * They are linked, and this header compiled without a warning, with gcc and clang, as C99 or later
+ * and as C++11 or later. On another processor use a cross compiler for x86-64.
  */
 #ifndef CHACHAQOM_H
 #define CHACHAQOM_H
 
 #include <stddef.h>
 #include <stdint.h>
+
+/*
+ * The version of this header and of the library that is installed with it. A host compares
+ * CHACHAQOM_VERSION_NUMBER; the shared library's name, libchachaqom.so.1, has the first number.
+ */
+#define CHACHAQOM_VERSION "1.0.0"
+#define CHACHAQOM_VERSION_NUMBER 10000 /* 10,000 * 1 + 100 * 0 + 0 */
 
 #ifdef __cplusplus
 extern "C" {

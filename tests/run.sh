@@ -6,14 +6,16 @@
 # shellcheck disable=SC2086
 set -u
 cd "$(dirname "$0")/.." || exit 1
+TOOLCHAIN_FOR=tests
 . tests/toolchain.sh
-for sourced in same report editor scene; do
+for sourced in same report editor scene link install; do
     . "tests/parts/$sourced.sh"
 done
 
 BUILD=target/c
 WORK=$BUILD/run
-MAKE="make -s ${1:+ARCHIVE=$1}"
+ARCHIVE=${1:-target/staticlib/libchachaqom.a}
+MAKE="make -s ARCHIVE=$ARCHIVE"
 rm -rf $BUILD
 mkdir -p "$WORK" || exit 1
 
@@ -38,15 +40,6 @@ build() {
         echo "programs made"
 }
 
-# A host against an installed copy, found by pkg-config.
-installed() {
-    $MAKE install PREFIX="$PWD/$WORK/prefix" || return 1
-    flags=$(PKG_CONFIG_PATH=$WORK/prefix/lib/pkgconfig pkg-config --cflags --libs chachaqom) ||
-        return 1
-    $CC -std=c99 -Wall -Wextra -Wpedantic -Werror tests/installed.c $flags -o "$WORK/installed" &&
-        $RUN "$WORK/installed"
-}
-
 part "build" build
 part "host in C" $RUN $BUILD/host
 part "host in C++" $RUN $BUILD/host-in-c++
@@ -62,6 +55,7 @@ part "words in C" $RUN $BUILD/text
 part "words in C++" $RUN $BUILD/text-in-c++
 part "report" python3 tests/reports.py $RUN target/bin/report -- $RUN $BUILD/expected
 part "report as a program" report_as_a_program
+part "linking" linking
 part "installed copy" installed
 part "editor" editor
 part "saving" saving
