@@ -8,7 +8,7 @@ set -u
 cd "$(dirname "$0")/.." || exit 1
 TOOLCHAIN_FOR=tests
 . tests/toolchain.sh
-for sourced in same report editor scene link install; do
+for sourced in same report editor scene link install make; do
     . "tests/parts/$sourced.sh"
 done
 
@@ -57,6 +57,7 @@ part "report" python3 tests/reports.py $RUN target/bin/report -- $RUN $BUILD/exp
 part "report as a program" report_as_a_program
 part "linking" linking
 part "installed copy" installed
+part "make" making
 part "editor" editor
 part "saving" saving
 part "nothing lost" nothing_lost

@@ -10,10 +10,16 @@
  *
  * An input depends on the seed and its own number alone, so that one can be made again by itself.
  */
+#define _POSIX_C_SOURCE 200809L
+
 #include "compare.h"
+
+#include <errno.h>
+#include <unistd.h>
 
 enum {
     DEFAULT_COUNT = 100000,
+    TOLD_EVERY = 1000,    /* inputs after which a terminal is told how far it is */
     FAULT_BOUND = 20000,  /* inputs within which a planted fault must be noticed */
     COVERED_FROM = 10000  /* from so many inputs on, each call must have given all its numbers */
 };
@@ -58,14 +64,28 @@ static void print_seen(const struct call *call)
     printf("; %s: %" PRIu64 "\n", call->counted, call->count);
 }
 
+/* How many inputs of how many, on standard error where that is a terminal. */
+static void tell_progress(uint64_t done, uint64_t count)
+{
+    static int terminal = -1;
+
+    if (terminal < 0)
+        terminal = isatty(STDERR_FILENO);
+    if (terminal && (done % TOLD_EVERY == 0 || done == count))
+        fprintf(stderr, "\rcompare: %" PRIu64 " of %" PRIu64 " inputs%s", done, count,
+                done == count ? "\n" : "");
+}
+
 static int run(uint64_t seed, uint64_t count, uint64_t first)
 {
     uint64_t i, failed = 0;
     size_t call;
 
     printf("compare: seed %" PRIu64 "\n", seed);
-    for (i = 0; i < count && failed < 10; i++)
+    for (i = 0; i < count && failed < 10; i++) {
         failed += !compare_input(seed, first + i);
+        tell_progress(i + 1, count);
+    }
     for (call = 0; call < COUNT_OF(calls); call++) {
         print_seen(calls[call]);
         if (count >= COVERED_FROM && !all_numbers_seen(calls[call]))
@@ -112,15 +132,29 @@ static int run_faults(uint64_t seed)
     return missed == 0 ? 0 : 1;
 }
 
+/* The number that an argument gives; ends the program where it is none. */
 static uint64_t argument(int argc, char **argv, int which, uint64_t otherwise)
 {
-    return argc > which ? strtoull(argv[which], NULL, 0) : otherwise;
+    unsigned long long number;
+    char *end;
+
+    if (argc <= which)
+        return otherwise;
+    errno = 0;
+    number = strtoull(argv[which], &end, 10);
+    if (argv[which][0] >= '0' && argv[which][0] <= '9' && *end == '\0' && errno == 0)
+        return number;
+    fprintf(stderr, "compare: %s is not a number\n"
+            "usage: compare [SEED [COUNT [FIRST]]], compare faults [SEED]\n", argv[which]);
+    exit(2);
 }
 
 int main(int argc, char **argv)
 {
-    if (argc > 1 && strcmp(argv[1], "faults") == 0)
-        return run_faults(argument(argc, argv, 2, DEFAULT_SEED));
-    return run(argument(argc, argv, 1, DEFAULT_SEED), argument(argc, argv, 2, DEFAULT_COUNT),
-               argument(argc, argv, 3, 0));
+    int faults = argc > 1 && strcmp(argv[1], "faults") == 0;
+    uint64_t seed = argument(argc, argv, 1 + faults, DEFAULT_SEED);
+
+    if (faults)
+        return run_faults(seed);
+    return run(seed, argument(argc, argv, 2, DEFAULT_COUNT), argument(argc, argv, 3, 0));
 }

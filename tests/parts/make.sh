@@ -1,0 +1,61 @@
+# shellcheck shell=sh disable=SC2086,SC2154
+# make.sh: the make file as a user meets it.
+
+# Names that a careless recipe would take apart, or run.
+odd_names() {
+    odd="$WORK/a scene; touch hit; \$(touch hit) \`touch hit\` 'it' \"s.scene"
+    cp examples/sector.scene "$odd" && cp examples/sector.scene "$WORK/plain.scene" || return 1
+    $MAKE report SCENE="$odd" > "$WORK/odd.txt" && same crates/report/stdout "$WORK/odd.txt" || return 1
+    $MAKE edit SCENE="$WORK/plain.scene" OUT="$odd" > /dev/null && same examples/sector.scene "$odd" || return 1
+    [ ! -e hit ] || { echo "a name was run"; return 1; }
+    # A refused scene is an answer; a missing one is an error.
+    $MAKE report SCENE=examples/repeated.scene > /dev/null || return 1
+    ! $MAKE report SCENE="$WORK/none.scene" > /dev/null 2>&1
+}
+
+# Arguments that are no numbers are errors.
+numbers_asked() {
+    for count in abc 1x -1 '1;touch hit'; do
+        ! $MAKE fuzz COUNT="$count" > "$WORK/asked.txt" 2>&1 && grep -q 'is not a number' "$WORK/asked.txt" ||
+            { echo "COUNT=$count was taken"; return 1; }
+    done
+    ! $MAKE fuzz SEED=abc COUNT=1 > /dev/null 2>&1 && $MAKE fuzz SEED=7 COUNT=10 > "$WORK/asked.txt" &&
+        grep -q '^compare: 10 inputs, 0 failed$' "$WORK/asked.txt"
+}
+
+# How far a long run is, on a terminal only.
+progress_told() {
+    script='import pty, sys; sys.exit(pty.spawn(sys.argv[1:]) >> 8)'
+    python3 -c "$script" $RUN $BUILD/compare 1 2000 < /dev/null > "$WORK/told.txt" &&
+        grep -q '1000 of 2000 inputs' "$WORK/told.txt" || return 1
+    $RUN $BUILD/compare 1 2000 > /dev/null 2> "$WORK/told.txt" && [ ! -s "$WORK/told.txt" ]
+}
+
+# Nothing is made anew without a change; a changed definition, proof or source makes all that rests on it.
+remade() {
+    made="target/staticlib/libchachaqom.a target/bin/report"
+    make -q $made || { echo "something is made without a change"; return 1; }
+    for changed in crates/relation/specs/Lib.antt crates/report/src/main.rt crates/scene/proofs crates.txt; do
+        make -n -W $changed $made > "$WORK/remade.txt" && grep -q 'staticlib chachaqom' "$WORK/remade.txt" &&
+            grep -q 'check report' "$WORK/remade.txt" || { echo "$changed changes nothing"; return 1; }
+    done
+}
+
+# Without the kit each target says so in a line. The folder has every command but rt.
+without_kit() {
+    bare=$PWD/$WORK/bare
+    mkdir -p "$bare"
+    for command in sh make sed find awk tee mktemp mkdir touch rm cat dirname readlink uname; do
+        ln -sf "$(command -v $command)" "$bare/$command"
+    done
+    for target in library report install; do
+        ! PATH=$bare make -s -W crates.txt $target > "$WORK/bare.txt" 2>&1 &&
+            grep -q "the Rattle kit's command 'rt' is not on the PATH" "$WORK/bare.txt" &&
+            [ "$(grep -vc '^make' "$WORK/bare.txt")" -eq 1 ] || { cat "$WORK/bare.txt"; return 1; }
+    done
+}
+
+making() {
+    odd_names && numbers_asked && progress_told && remade && without_kit && $MAKE help | grep -q 'make uninstall' &&
+        echo "odd names, wrong numbers, progress, changes, a machine without the kit"
+}
