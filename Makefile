@@ -152,7 +152,8 @@ $(BUILD)/bench: $(BENCHED) bench/plain.rs bench/refiners.h bench/relations.h inc
 			-o $(BUILD)/libplain_rust.a && \
 		rust="-DWITH_RUST $(BUILD)/libplain_rust.a $(RUST_LIBRARIES)"; \
 	else rust=; fi && \
-	$$CC $(STRICT_C) -O2 $(BENCHED) $(ARCHIVE) $$rust -o $@
+	$$CC $(STRICT_C) -O3 -Dplain_refine=plain_refine_faster -c bench/plain.c -o $(BUILD)/plain-O3.o && \
+	$$CC $(STRICT_C) -O2 -DCOMPILER_FLAGS='"-std=c99 -O2"' $(BENCHED) $(BUILD)/plain-O3.o $(ARCHIVE) $$rust -o $@
 
 # ---- installation ----
 

@@ -1,8 +1,8 @@
 /*
- * bench.c: times chachaqom_refine beside other refinements, on the same networks in the same run.
- * The networks that they leave are compared before anything is timed. Times are the best of several
- * batches, taken in turns; the table gives the library's time and how many times as long each of the
- * others took.
+ * bench.c: times chachaqom_refine beside other refinements, on the same networks in the same run,
+ * accepted and refused. Whether they accept, and the networks that they leave, are compared before
+ * anything is timed. Times are the best of several batches, taken in turns; the table gives the
+ * library's time and how many times as long each of the others took.
  *
  *     bench [EMULATOR]     EMULATOR: the command that runs this program, where there is one
  */
@@ -18,6 +18,16 @@
 #include <string.h>
 #include <sys/utsname.h>
 #include <time.h>
+
+/* Where the make file does not say with what the C refinements were compiled. */
+#ifndef COMPILER_FLAGS
+#define COMPILER_FLAGS "flags not known"
+#endif
+#ifdef __clang__
+#define COMPILER "clang " __clang_version__
+#else
+#define COMPILER "gcc " __VERSION__
+#endif
 
 enum {
     BATCHES = 7,
@@ -139,47 +149,78 @@ static void state_chain(size_t n)
         cells[i * n + i + 1] = CHACHAQOM_INSIDE;
 }
 
+/* The last region inside the first: refused with 23, in a late round. */
+static void state_closed_chain(size_t n)
+{
+    state_chain(n);
+    cells[(n - 1) * n] = CHACHAQOM_INSIDE;
+}
+
+/* Rectangles, and at the end of the matrix two statements that no third region fits: refused with 23. */
+static void state_clash(size_t n)
+{
+    state_medium(n);
+    cells[(n - 3) * n + n - 2] = CHACHAQOM_CONTAINS;
+    cells[(n - 2) * n + n - 1] = CHACHAQOM_CONTAINS;
+    cells[(n - 3) * n + n - 1] = CHACHAQOM_MEET;
+}
+
+/* A pair that contradicts itself, the last in row order: refused with 22, before any round. */
+static void state_pair(size_t n)
+{
+    state_medium(n);
+    cells[(n - 2) * n + n - 1] = CHACHAQOM_INSIDE;
+    cells[(n - 1) * n + n - 2] = CHACHAQOM_INSIDE;
+}
+
 /* ---- the refinements that are timed ---- */
 
 static size_t size;          /* of the network in cells */
 static uint32_t made_rounds; /* by the call last made, where it counts them */
 
-static int run_library(void)
+static uint32_t run_library(void)
 {
     uint32_t number = chachaqom_refine(size, cells, size * size, first, size * size, second,
                                        size * size, answer, sizeof answer);
 
     made_rounds = chachaqom_number(answer, CHACHAQOM_ANSWER_COUNT);
-    return number == CHACHAQOM_ACCEPTED;
+    return number;
 }
 
-static int run_plain(void)
+static uint32_t run_plain(void)
 {
-    return plain_refine(size, cells, first, second, &made_rounds) == CHACHAQOM_ACCEPTED;
+    return plain_refine(size, cells, first, second, &made_rounds);
+}
+
+static uint32_t run_plain_faster(void)
+{
+    return plain_refine_faster(size, cells, first, second, &made_rounds);
 }
 
 #ifdef WITH_RUST
-static int run_rust(void)
+static uint32_t run_rust(void)
 {
-    return rust_refine(size, cells, first, second, &made_rounds) == CHACHAQOM_ACCEPTED;
+    return rust_refine(size, cells, first, second, &made_rounds);
 }
 #endif
 
-static int run_queue(void)
+/* It does not tell contradictions apart. */
+static uint32_t run_queue(void)
 {
-    return queue_refine(size, cells, first);
+    return queue_refine(size, cells, first) ? CHACHAQOM_ACCEPTED : CHACHAQOM_PATH;
 }
 
 struct refinement {
     const char *name;
-    int (*run)(void);
-    int counts_rounds;
+    uint32_t (*run)(void);
+    int exact; /* it counts rounds and numbers contradictions as the library does */
 };
 
 /* The library comes first: the others are compared with it. */
 static const struct refinement refinements[] = {
     { "library", run_library, 1 },
-    { "plain C", run_plain, 1 },
+    { "plain C -O2", run_plain, 1 },
+    { "plain C -O3", run_plain_faster, 1 },
 #ifdef WITH_RUST
     { "plain Rust", run_rust, 1 },
 #endif
@@ -188,26 +229,31 @@ static const struct refinement refinements[] = {
 
 enum { REFINEMENTS = sizeof refinements / sizeof refinements[0] };
 
-/* All refinements accept the network in cells and leave the same one; else the program ends. */
-static void compare_all(const char *kind)
+/* Whether a refinement answers as the library did, and leaves the same network where it accepts. */
+static int alike(const struct refinement *refinement, uint32_t number, uint32_t rounds)
 {
-    uint32_t rounds = 0;
+    uint32_t answered = refinement->run();
+
+    if ((answered == CHACHAQOM_ACCEPTED) != (number == CHACHAQOM_ACCEPTED))
+        return 0;
+    if (refinement->exact && (answered != number || made_rounds != rounds))
+        return 0;
+    return number != CHACHAQOM_ACCEPTED || memcmp(first, expected, size * size) == 0;
+}
+
+/* All refinements agree on the network in cells, else the program ends; the number is handed back. */
+static uint32_t compare_all(const char *kind, uint32_t wanted)
+{
+    uint32_t number = run_library(), rounds = made_rounds;
     size_t which;
 
-    for (which = 0; which < REFINEMENTS; which++) {
-        const struct refinement *refinement = &refinements[which];
-        int accepted = refinement->run();
-
-        if (which == 0) {
-            memcpy(expected, first, size * size);
-            rounds = made_rounds;
-        }
-        if (!accepted || memcmp(first, expected, size * size) != 0
-            || (refinement->counts_rounds && made_rounds != rounds)) {
-            printf("bench: %s, %s, %zu regions: another result\n", refinement->name, kind, size);
+    memcpy(expected, first, size * size);
+    for (which = 0; which < REFINEMENTS; which++)
+        if (number != wanted || !alike(&refinements[which], number, rounds)) {
+            printf("bench: %s, %s, %zu regions: another result\n", refinements[which].name, kind, size);
             exit(1);
         }
-    }
+    return number;
 }
 
 /* ---- times ---- */
@@ -220,7 +266,7 @@ static double nanoseconds(void)
     return 1e9 * (double)now.tv_sec + (double)now.tv_nsec;
 }
 
-static double time_calls(int (*run)(void), size_t calls)
+static double time_calls(uint32_t (*run)(void), size_t calls)
 {
     double start = nanoseconds();
     size_t i;
@@ -231,7 +277,7 @@ static double time_calls(int (*run)(void), size_t calls)
 }
 
 /* Calls that make up a batch. */
-static size_t calls_of(int (*run)(void))
+static size_t calls_of(uint32_t (*run)(void))
 {
     return 1 + (size_t)(BATCH_NANOSECONDS / (time_calls(run, 1) + 1));
 }
@@ -252,14 +298,15 @@ static void take_times(double *best)
         }
 }
 
-static void print_row(const char *kind)
+static void print_row(const char *kind, uint32_t number)
 {
     double best[REFINEMENTS];
     size_t which;
 
     take_times(best);
     run_library();
-    printf("%4zu  %-8s %6lu %14.1f", size, kind, (unsigned long)made_rounds, best[0] / 1000);
+    printf("%4zu  %-8s %6lu %6lu %14.1f", size, kind, (unsigned long)number,
+           (unsigned long)made_rounds, best[0] / 1000);
     for (which = 1; which < REFINEMENTS; which++)
         printf(" %12.2f", best[which] / best[0]);
     printf("\n");
@@ -289,6 +336,8 @@ static void print_machine(const char *emulator)
     if (uname(&names) == 0)
         printf("machine: %s %s %s\n", names.sysname, names.release, names.machine);
     print_processor();
+    printf("compiler of the C refinements: %s, %s; with -O3 in place of -O2 where it says so\n",
+           COMPILER, COMPILER_FLAGS);
     if (emulator[0] == '\0')
         printf("run natively\n");
     else
@@ -300,15 +349,18 @@ int main(int argc, char **argv)
     static const struct {
         const char *name;
         void (*state)(size_t);
+        uint32_t number;
     } kinds[] = {
-        { "sparse", state_sparse }, { "medium", state_medium },
-        { "dense", state_dense }, { "chain", state_chain }
+        { "sparse", state_sparse, CHACHAQOM_ACCEPTED }, { "medium", state_medium, CHACHAQOM_ACCEPTED },
+        { "dense", state_dense, CHACHAQOM_ACCEPTED }, { "chain", state_chain, CHACHAQOM_ACCEPTED },
+        { "closed", state_closed_chain, CHACHAQOM_PATH }, { "clash", state_clash, CHACHAQOM_PATH },
+        { "pair", state_pair, CHACHAQOM_ARC }
     };
     size_t kind, which;
 
     queue_prepare();
     print_machine(argc > 1 ? argv[1] : "");
-    printf("\n   n  network  rounds  library, us");
+    printf("\n   n  network  number rounds    library, us");
     for (which = 1; which < REFINEMENTS; which++)
         printf(" %12s", refinements[which].name);
     printf("   (times the library's time)\n");
@@ -317,8 +369,7 @@ int main(int argc, char **argv)
             random_state = size;
             memset(cells, CHACHAQOM_UNIVERSAL, sizeof cells);
             kinds[kind].state(size);
-            compare_all(kinds[kind].name);
-            print_row(kinds[kind].name);
+            print_row(kinds[kind].name, compare_all(kinds[kind].name, kinds[kind].number));
         }
     return 0;
 }

@@ -15,6 +15,8 @@
  */
 uint32_t plain_refine(size_t n, const uint8_t *cells, uint8_t *first, uint8_t *second,
                       uint32_t *rounds);
+uint32_t plain_refine_faster(size_t n, const uint8_t *cells, uint8_t *first, uint8_t *second,
+                             uint32_t *rounds); /* the same source, compiled with -O3 */
 uint32_t rust_refine(size_t n, const uint8_t *cells, uint8_t *first, uint8_t *second,
                      uint32_t *rounds);
 
