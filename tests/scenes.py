@@ -1,9 +1,12 @@
 #!/usr/bin/env python3
-"""scenes.py [--check]: writes the scenes of crates/cases (data/, args) and the lines that the program must print for them (the end of
-stdout). Each scene is built record by record from document 01, with the answer that the document states for it. With --check nothing is
-written, and the files must hold just that."""
+"""scenes.py [--check]: writes the scenes of crates/cases (data/, args) and all that the program must print (stdout). Each scene is built record
+by record from document 01, with the answer that the document states for it. What is expected of the matrices is worked out here, by the
+document's rules and the paper's table (refinement.py). With --check nothing is written, and the files must hold just that."""
 import pathlib
 import sys
+
+sys.dont_write_bytecode = True
+import refinement  # noqa: E402
 
 CASES = pathlib.Path(__file__).resolve().parent.parent / "crates" / "cases"
 
@@ -82,15 +85,45 @@ SCENES = [
 ]
 
 
+# Matrices: a name, n, how many cells are lent, and those that are not 255, by row and column.
+MATRICES = [
+    ("example 12", 4, 16, {(0, 1): 8, (1, 2): 8, (2, 3): 8}),
+    ("example 13", 4, 16, {(0, 1): 32, (1, 2): 2, (0, 3): 1, (3, 2): 128}),
+    ("example 14", 4, 16, {(0, 3): 128, (1, 3): 128, (2, 1): 8, (2, 0): 1}),
+    ("example 15", 3, 9, {(1, 2): 155, (1, 0): 64, (0, 2): 2}),
+    ("along a triple", 4, 16, {(0, 2): 64, (0, 3): 2, (1, 2): 2, (1, 3): 16, (2, 3): 129}),
+    ("without an arrangement", 4, 16, {(0, 1): 44, (0, 2): 80, (0, 3): 80, (1, 2): 129, (1, 3): 196, (2, 3): 40}),
+    ("at a region", 3, 9, {(1, 1): 251}),
+    ("at a pair", 3, 9, {(0, 2): 8, (2, 0): 8}),
+    ("64 regions", 64, 4096, {}),
+    ("64 regions, a cell short", 64, 4095, {}),
+    ("63 regions, cells of 64", 63, 4096, {}),
+    ("no region", 0, 0, {}),
+    ("65 regions", 65, 4096, {}),
+    ("2^32 regions", 2**32, 0, {}),
+    ("the most a number holds", 2**64 - 1, 1, {}),
+]
+
+
+def matrix(name, n, count, stated):
+    """The two lines of a matrix: the answer, with both areas untouched behind what is filled, and the network."""
+    cells = [255] * count
+    for (row, column), cell in stated.items():
+        cells[row * n + column] = cell
+    numbers, network = refinement.refine(n, cells)
+    shown = network if len(network) <= 16 else [sum(network)]
+    first = " ".join([name + ":", *map(str, numbers), "first kept second kept"])
+    return first + "\n" + " ".join([f"  network {len(network)}:", *map(str, shown)]) + "\n"
+
+
 def files():
     """Every file of the cases that this script answers for."""
     made = {f"data/{name}": scene for name, scene, _ in SCENES}
     made["args"] = "".join(name + "\n" for name, _, _ in SCENES).encode()
-    old = (CASES / "stdout").read_text()
-    start = old.index("63 identifiers:") if "63 identifiers:" in old else len(old)
+    matrices = "".join(matrix(*given) for given in MATRICES)
     short = "".join(f"{what}: 2 0 0, sum of the cells {7 * cells}\n" for what, cells in (("63 identifiers", 4096), ("4095 cells", 4095)))
     lines = "".join(f"{name}: {line}\n" for name, _, line in SCENES)
-    made["stdout"] = (old[:start] + short + lines).encode()
+    made["stdout"] = (matrices + short + lines).encode()
     return made
 
 
@@ -106,7 +139,7 @@ def main():
         elif not path.exists() or path.read_bytes() != content:
             print("scenes:", path, "is not what the script makes")
             wrong += 1
-    print(f"scenes: {len(SCENES)} scenes" + ("" if wrong == 0 else f", {wrong} files differ"))
+    print(f"scenes: {len(MATRICES)} matrices, {len(SCENES)} scenes" + ("" if wrong == 0 else f", {wrong} files differ"))
     return 1 if wrong else 0
 
 
