@@ -36,7 +36,7 @@ part() {
 build() {
     $MAKE target/bin/report $BUILD/host $BUILD/host-in-c++ $BUILD/compare $BUILD/expected \
         $BUILD/stack $BUILD/text $BUILD/text-in-c++ $BUILD/editor &&
-        { [ -n "$RUN" ] || $MAKE sanitized; } &&
+        { [ -n "$UNRUN" ] || $MAKE sanitized; } &&
         echo "programs made"
 }
 
@@ -45,9 +45,13 @@ part "host in C" $RUN $BUILD/host
 part "host in C++" $RUN $BUILD/host-in-c++
 part "compare" $RUN $BUILD/compare
 part "faults" $RUN $BUILD/compare faults
-if [ -z "$RUN" ]; then
+# Both work on programs of the machine's own processor alone.
+if [ -z "$UNRUN" ]; then
     part "host under valgrind" valgrind -q --error-exitcode=9 $BUILD/host
     part "compare under sanitizers" $BUILD/compare-sanitized 7 4000
+else
+    echo "host under valgrind: LEFT OUT: $UNRUN"
+    echo "compare under sanitizers: LEFT OUT: $UNRUN"
 fi
 part "stack" $RUN $BUILD/stack
 part "signatures" python3 tests/signatures.py
