@@ -4,6 +4,15 @@
 
 #include <stdio.h>
 
+/* The two forms of the version agree. */
+static int version_right(void)
+{
+    unsigned major, minor, patch;
+
+    return sscanf(CHACHAQOM_VERSION, "%u.%u.%u", &major, &minor, &patch) == 3
+           && 10000 * major + 100 * minor + patch == CHACHAQOM_VERSION_NUMBER;
+}
+
 int main(void)
 {
     const uint8_t cells[4] = { CHACHAQOM_UNIVERSAL, CHACHAQOM_INSIDE, CHACHAQOM_UNIVERSAL,
@@ -11,7 +20,7 @@ int main(void)
     uint8_t first[4], second[4], answer[CHACHAQOM_ANSWER_LENGTH];
     uint32_t number = chachaqom_refine(2, cells, sizeof cells, first, sizeof first,
                                        second, sizeof second, answer, sizeof answer);
-    int right = number == CHACHAQOM_ACCEPTED && first[2] == CHACHAQOM_CONTAINS;
+    int right = number == CHACHAQOM_ACCEPTED && first[2] == CHACHAQOM_CONTAINS && version_right();
     char words[CHACHAQOM_TEXT_LENGTH];
 
     chachaqom_set_in_words(first[2], words, sizeof words);

@@ -3,7 +3,7 @@
 #
 #     tests/run.sh [ARCHIVE]     ARCHIVE: another archive than that of `make library`
 # RUN, MAKE and the compiler's flags are lists of words.
-# shellcheck disable=SC2086
+# shellcheck disable=SC2086,SC1090
 set -u
 cd "$(dirname "$0")/.." || exit 1
 TOOLCHAIN_FOR=tests

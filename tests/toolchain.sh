@@ -17,6 +17,12 @@ toolchain_need() {
     toolchain_missing="$toolchain_missing $*"
 }
 
+# Stands for the emulator where there is no kit.
+toolchain_without_kit() {
+    echo "toolchain: x86-64 programs need the kit's emulator: 'rt' is not on the PATH" >&2
+    return 2
+}
+
 case $(uname -m) in
 aarch64 | arm64)
     toolchain_need x86_64-linux-gnu-gcc gcc-x86-64-linux-gnu
@@ -27,8 +33,12 @@ aarch64 | arm64)
     NM=x86_64-linux-gnu-nm
     CLANG="clang --target=x86_64-linux-gnu"
     CLANGXX="clang++ --target=x86_64-linux-gnu"
-    toolchain_rt=$(readlink -f "$(command -v rt)")
-    RUN="${toolchain_rt%/*/*}/on/aarch64/toolchain/bin/qemu-x86_64 -L /usr/x86_64-linux-gnu"
+    if toolchain_rt=$(command -v rt); then
+        toolchain_rt=$(readlink -f "$toolchain_rt")
+        RUN="${toolchain_rt%/*/*}/on/aarch64/toolchain/bin/qemu-x86_64 -L /usr/x86_64-linux-gnu"
+    else
+        RUN=toolchain_without_kit
+    fi
     UNRUN="the programs are x86-64 code and run in an emulator here"
     ;;
 *)

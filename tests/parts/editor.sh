@@ -1,4 +1,4 @@
-# shellcheck shell=sh disable=SC2086,SC2154
+# shellcheck shell=sh disable=SC2015,SC2086,SC2154
 # editor.sh: the example host: what it shows, what it saves, and that nothing is lost when it cannot.
 
 # The example host on one scene: what it prints, and its exit status as a last line.

@@ -1,4 +1,4 @@
-# shellcheck shell=sh disable=SC2086,SC2154
+# shellcheck shell=sh disable=SC2015,SC2086,SC2154
 # make.sh: the make file as a user meets it.
 
 # Names that a careless recipe would take apart, or run.
@@ -34,7 +34,9 @@ progress_told() {
 # Nothing is made anew without a change; a changed definition, proof or source makes all that rests on it.
 remade() {
     made="target/staticlib/libchachaqom.a target/bin/report"
-    make -q $made || { echo "something is made without a change"; return 1; }
+    [ "$ARCHIVE" = target/staticlib/libchachaqom.a ] || return 0
+    $MAKE library target/bin/report && make -q library target/bin/report ||
+        { echo "something is made without a change"; return 1; }
     for changed in crates/relation/specs/Lib.antt crates/report/src/main.rt crates/scene/proofs crates.txt; do
         make -n -W $changed $made > "$WORK/remade.txt" && grep -q 'staticlib chachaqom' "$WORK/remade.txt" &&
             grep -q 'check report' "$WORK/remade.txt" || { echo "$changed changes nothing"; return 1; }
@@ -55,7 +57,20 @@ without_kit() {
     done
 }
 
+# Where apt-get cannot install what is missing, its own words are shown.
+without_network() {
+    alone=$PWD/$WORK/alone
+    mkdir -p "$alone"
+    for command in sh uname readlink mktemp cat rm; do
+        ln -sf "$(command -v $command)" "$alone/$command"
+    done
+    printf '#!/bin/sh\necho "E: there is no network here"\nexit 100\n' > "$alone/apt-get"
+    chmod +x "$alone/apt-get"
+    ! PATH=$alone sh -c 'unset CC CXX; . tests/toolchain.sh' > "$WORK/alone.txt" 2>&1 &&
+        grep -q 'E: there is no network here' "$WORK/alone.txt" && grep -q 'could not install.* gcc' "$WORK/alone.txt"
+}
+
 making() {
-    odd_names && numbers_asked && progress_told && remade && without_kit && $MAKE help | grep -q 'make uninstall' &&
+    odd_names && numbers_asked && progress_told && remade && without_kit && without_network && $MAKE help | grep -q 'make uninstall' &&
         echo "odd names, wrong numbers, progress, changes, a machine without the kit"
 }

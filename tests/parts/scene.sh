@@ -29,7 +29,7 @@ scenes() {
 # Each is a text at fault and what must be said of it: its line, and no word of the tool's own language.
 faulty_texts() {
     while IFS='|' read -r text words; do
-        printf "region 7\\n$text\\n" > "$WORK/wrong.txt"
+        printf 'region 7\n%b\n' "$text" > "$WORK/wrong.txt"
         ends 1 "line 2: .*$words" tools/scene make "$WORK/wrong.txt" &&
             [ ! -s "$WORK/ends.out" ] || return 1
         if grep -qi 'traceback\|errno\|codec\|fromhex\|int()\|exception' "$WORK/ends.log"; then
@@ -52,7 +52,7 @@ end of it|behind end
 bytes 0|hexadecimal
 bytes zz|hexadecimal
 bytes 0x11|hexadecimal
-\377\376|not text
+\0377\0376|not text
 TEXTS
 }
 
