@@ -44,8 +44,8 @@
  * length 0 is an empty array. Arrays marked const are never written. No byte outside of an array
  * is read or written, and bytes past those that a call is said to fill stay as they were. No call
  * allocates, keeps a pointer, or uses anything but its arguments: calls on different areas may run
- * side by side. The arrays of one call must not overlap, a work area not even the input: C cannot
- * check it, and nothing is promised where they do.
+ * side by side. The arrays of one call must not overlap each other: that cannot be checked in C, and
+ * nothing is promised where they do.
  *
  * Stack. A call uses at most the bytes of stack that CHACHAQOM_REFINE_STACK and its like say. They
  * are measured on the largest inputs, accepted and refused, and rounded up; they are not proved. A
