@@ -31,6 +31,34 @@ progress_told() {
     $RUN $BUILD/compare 1 2000 > /dev/null 2> "$WORK/told.txt" && [ ! -s "$WORK/told.txt" ]
 }
 
+# Proving says which crate it is at while it goes on, and shows all where it fails. In the place of rt stands
+# a script that is done with one crate and then waits until it is told to go on, or gives up.
+proving_told() {
+    stand_in=$PWD/$WORK/stand-in
+    mkdir -p "$stand_in" && rm -f "$stand_in/go" || return 1
+    cat > "$stand_in/rt" << 'RT'
+#!/bin/sh
+echo "rt: region proved (1 s)"
+for tenth in $(seq 200); do
+    [ ! -e "${0%/rt}/go" ] || exit 0
+    sleep 0.1
+done
+echo "rt: nobody told me to go on"
+exit 1
+RT
+    chmod +x "$stand_in/rt"
+    PATH=$stand_in:$PATH tools/prove check report 2> "$WORK/proving.txt" &
+    for tenth in $(seq 100); do
+        grep -q '^prove: 1 of [0-9]*: region proved' "$WORK/proving.txt" && break
+        sleep 0.1
+    done
+    [ "$tenth" -lt 100 ] && touch "$stand_in/go"
+    wait $! || { cat "$WORK/proving.txt"; return 1; }
+    printf '#!/bin/sh\necho "rt: something is wrong"\nexit 1\n' > "$stand_in/rt"
+    ! PATH=$stand_in:$PATH tools/prove check report 2> "$WORK/proving.txt" &&
+        grep -q 'something is wrong' "$WORK/proving.txt"
+}
+
 # Nothing is made anew without a change; a changed definition, proof or source makes all that rests on it.
 remade() {
     made="target/staticlib/libchachaqom.a target/bin/report"
@@ -71,6 +99,6 @@ without_network() {
 }
 
 making() {
-    odd_names && numbers_asked && progress_told && remade && without_kit && without_network && $MAKE help | grep -q 'make uninstall' &&
+    odd_names && numbers_asked && progress_told && proving_told && remade && without_kit && without_network && $MAKE help | grep -q 'make uninstall' &&
         echo "odd names, wrong numbers, progress, changes, a machine without the kit"
 }
