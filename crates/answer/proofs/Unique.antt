@@ -1,27 +1,35 @@
--- No second answer meets the contracts of `number_at`, `put_number` and `put_answer`. Assumes nothing.
-use mathlib.Core.Path.{_≡_, sym, _∙_}
+-- No second answer meets the contract of `tell` or of `put_answer`.
+use mathlib.Core.Path.{_≡_, sym, ap, _∙_}
 use contract.Lifetimes.{Lfts}
 use denote.Ref.{now}
 use denote.Triple.Clauses.{AtExit}
 use borrow.Fn.Kinds.{Dens, resT, endedOf}
-use Rattle.answer.proofs.number_at.Kinds as read
-use Rattle.answer.proofs.number_at.Reads as number-at
-use Rattle.answer.proofs.put_number.Kinds as put
-use Rattle.answer.proofs.put_number.Reads as put-number
-use Rattle.answer.proofs.put_answer.Kinds as answered
-use Rattle.answer.proofs.put_answer.Reads as put-answer
+use Rattle.answer.specs.Answer.{Answer}
+use Rattle.answer.specs.Told.{told}
+use Rattle.answer.specs.declared.Numbers.{Numbers}
+use Rattle.answer.proofs.Exporting.{one-answer}
+use Rattle.answer.proofs.tell.Kinds as telling-kinds
+use Rattle.answer.proofs.tell.Reads as telling-reads
+use Rattle.answer.proofs.put_answer.Kinds as put-kinds
+use Rattle.answer.proofs.put_answer.Reads as put-reads
 
-pub number-at-unique : (κs : Lfts 1) (a : Dens κs read.ps) (r r' : resT read.r κs .Denot)
-    (s s' : AtExit (endedOf 1 read.ps read.r) κs)
-    → number-at.Post κs a r s → number-at.Post κs a r' s' → r ≡ r'
-number-at-unique κs a r r' s s' p q = p ∙ sym q
+-- the code's numbers of an answer
+telling : Answer → Numbers
+telling a =
+    record { number = a .number; first = a .first; second = a .second; third = a .third; count = a .count }
 
-pub put-number-unique : (κs : Lfts 1) (a : Dens κs put.ps) (r r' : resT put.r κs .Denot)
-    (s s' : AtExit (endedOf 1 put.ps put.r) κs)
-    → put-number.Post κs a r s → put-number.Post κs a r' s' → now (s .0) ≡ now (s' .0)
-put-number-unique κs a r r' s s' p q = p ∙ sym q
+-- numbers that tell the same answer are the same
+pub told-one : (r r' : Numbers) (a : Answer) → told r ≡ a → told r' ≡ a → r ≡ r'
+unfolding telling
+told-one r r' a p q = ap telling (p ∙ sym q)
 
-pub put-answer-unique : (κs : Lfts 1) (a : Dens κs answered.ps) (r r' : resT answered.r κs .Denot)
-    (s s' : AtExit (endedOf 1 answered.ps answered.r) κs)
-    → put-answer.Post κs a r s → put-answer.Post κs a r' s' → now (s .0) ≡ now (s' .0)
-put-answer-unique κs a r r' s s' p q = p ∙ sym q
+pub tell-unique : (κs : Lfts 0) (a : Dens κs telling-kinds.ps) (r r' : resT telling-kinds.r κs .Denot)
+    (s s' : AtExit (endedOf 0 telling-kinds.ps telling-kinds.r) κs)
+    → telling-reads.Post κs a r s → telling-reads.Post κs a r' s' → r ≡ r'
+tell-unique κs a r r' s s' p q = told-one r r' _ p q
+
+-- the number and the answer area
+pub put-answer-unique : (κs : Lfts 1) (a : Dens κs put-kinds.ps) (r r' : resT put-kinds.r κs .Denot)
+    (s s' : AtExit (endedOf 1 put-kinds.ps put-kinds.r) κs)
+    → put-reads.Post κs a r s → put-reads.Post κs a r' s' → (r ≡ r') × (now (s .0) ≡ now (s' .0))
+put-answer-unique κs a r r' s s' p q = one-answer p q

@@ -1,4 +1,4 @@
--- What every call answers in document 01's numbers. Assumes nothing.
+-- What every call answers in document 01's numbers.
 use Prim.Native.Nat.{ℕ}
 
 -- the refusal number or 0, three places (unused ones 0), and a count

@@ -1,25 +1,27 @@
--- Numbers of 32 bits as bytes, big-endian, and an answer as 20 bytes. Assumes nothing.
-use mathlib.Core.Bool.{cond}
-use mathlib.Core.List.{List, [], _∷_, _++_}
-use Prim.Native.Nat.{ℕ, _+_, _*_, _/_, _%_}
-use lib.Dec.{leb}
-use lib.ListN.{length, getD}
-use lib.Seq.{sets}
+-- An answer as 20 bytes for a host in C, and what every export does with the area that it is lent for them.
+use mathlib.Core.Path.{_≡_}
+use mathlib.Core.Bool.{Bool, cond}
+use mathlib.Core.List.{List, _++_}
+use Prim.Native.Nat.{ℕ}
+use lib.Dec.{eqb}
+use lib.ListN.{length}
+use Rattle.lists.specs.BigEndian.{bigEndian}
 use Rattle.answer.specs.Answer.{Answer}
 
--- the number whose four bytes begin at a place
-abbrev pub numberAt : List ℕ → ℕ → ℕ
-numberAt s at = getD s at 0 * 16777216 + getD s (at + 1) 0 * 65536 + getD s (at + 2) 0 * 256 + getD s (at + 3) 0
-
--- a number as its four bytes
-abbrev pub bytesOf : ℕ → List ℕ
-bytesOf x = x / 16777216 % 256 ∷ x / 65536 % 256 ∷ x / 256 % 256 ∷ x % 256 ∷ []
-
--- an area after a number's bytes are put at a place, if all four fit
-abbrev pub numberPut : List ℕ → ℕ → ℕ → List ℕ
-numberPut area at x = cond (leb (at + 4) (length area)) (sets area at (bytesOf x)) area
-
--- an answer as its 20 bytes
+-- the five numbers, each in four bytes
 abbrev pub answerBytes : Answer → List ℕ
 answerBytes a =
-    bytesOf (a .number) ++ bytesOf (a .first) ++ bytesOf (a .second) ++ bytesOf (a .third) ++ bytesOf (a .count)
+    bigEndian (a .number) ++ bigEndian (a .first) ++ bigEndian (a .second) ++ bigEndian (a .third) ++ bigEndian (a .count)
+
+-- an answer area is exactly 20 bytes
+abbrev pub fits : List ℕ → Bool
+fits area = eqb (length area) 20
+
+-- what an export promises of its number and its answer area: with an area of another length it is 2, and nothing is written
+pub record Answers (numbers : Answer) (area area′ : List ℕ) (number : ℕ) : Type 0 where
+  pub returned : number ≡ cond (fits area) (numbers .number) 2
+  pub inAnswer : area′ ≡ cond (fits area) (answerBytes numbers) area
+
+-- what it leaves in another lent area: nothing is written there either where the answer area has another length
+abbrev pub leftWith : List ℕ → List ℕ → List ℕ → List ℕ
+leftWith answer after before = cond (fits answer) after before

@@ -37,7 +37,7 @@ fn run(name: &[u8], n: usize, cells: &[u8], untouched: usize) {
     let mut first = [MARK; 4200];
     let mut second = [MARK; 4200];
     let verdict = network::refine(n, cells, &mut first, &mut second);
-    let told = numbers::of_verdict(verdict);
+    let told = network::numbers::of_verdict(verdict);
     word(name);
     word(b":");
     number(told.number as u64);

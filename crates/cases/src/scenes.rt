@@ -24,7 +24,7 @@ fn whole(identifier: u32) -> u64 {
 
 // The reading of a scene with areas of these lengths, and what it left.
 fn print_reading(scene: &[u8], identifiers: &mut [u32], cells: &mut [u8]) {
-    let told = numbers::of_reading(scene::read(scene, identifiers, cells));
+    let told = scene::numbers::of_reading(scene::read(scene, identifiers, cells));
     number(told.number as u64);
     number(told.first as u64);
     number(told.count as u64);

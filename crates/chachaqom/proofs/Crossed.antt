@@ -1,56 +1,20 @@
--- Numbers as they cross to C: 32 bits of each, and 64 identifiers one behind the other. Assumes nothing.
+-- Identifiers as they cross to C: 64 numbers one behind the other, and numbers that bytes hold.
 use mathlib.Core.Path.{_≡_, refl, sym, ap, _∙_}
-use mathlib.Core.Bool.{cond}
 use mathlib.Core.List.{List, [], _∷_, _++_, append-assoc}
-use Prim.Native.Nat.{ℕ, _+_, _*_, _/_, _%_, _≤_, _<_}
+use Prim.Native.Nat.{ℕ, zero, suc, _+_, _*_, _≤_, _<_}
 use native.Mathlib.Numerals.{add-one}
 use native.Mathlib.Omega.{arith}
-use lib.ListN.{length, getD, take}
-use lib.Seq.{take-all, take-suc}
-use Rattle.answer.specs.Answer.{answer}
-use Rattle.answer.specs.Bytes.{bytesOf, numberPut, answerBytes}
-use Rattle.answer.proofs.BytesLaws.{put-behind}
-use Rattle.chachaqom.specs.Exports.{fits, numbersBytes}
-use Rattle.chachaqom.specs.Inner.{Answers}
+use lib.ListN.{length, getD, take, set, length-append}
+use lib.Seq.{take-all, take-suc, take-suc-set}
+use Rattle.lists.specs.BigEndian.{bigEndian, numberAt, numberPut, numbersBytes, numbersIn}
+use Rattle.lists.proofs.BigEndianLaws.{put-behind}
 
--- the four bytes of a number are those of its low 32 bits
-crossing-bytes : (x : ℕ) → bytesOf (x % 4294967296) ≡ bytesOf x
-crossing-bytes x =
-    let e₁ : x % 4294967296 / 16777216 % 256 ≡ x / 16777216 % 256 = omega arith in
-    let e₂ : x % 4294967296 / 65536 % 256 ≡ x / 65536 % 256 = omega arith in
-    let e₃ : x % 4294967296 / 256 % 256 ≡ x / 256 % 256 = omega arith in
-    let e₄ : x % 4294967296 % 256 ≡ x % 256 = omega arith in
-    rw (e₁, e₂, e₃, e₄)
-
-abbrev five : List ℕ → List ℕ → List ℕ → List ℕ → List ℕ → List ℕ
-five a b c d e = a ++ b ++ c ++ d ++ e
-
--- so an answer that is put by the low 32 bits of its numbers is the answer
-pub crossed-answer : {number first second third count f s t c : ℕ} {area area′ : List ℕ} → f ≡ first % 4294967296
-    → s ≡ second % 4294967296 → t ≡ third % 4294967296 → c ≡ count % 4294967296
-    → area′ ≡ cond (fits area) (answerBytes (answer number f s t c)) area
-    → Answers (answer number first second third count) area area′ number
-crossed-answer {number} {first} {second} {third} {count} {f} {s} {t} {c} {area} e₁ e₂ e₃ e₄ put =
-    let b₁ : bytesOf f ≡ bytesOf first = ap bytesOf e₁ ∙ crossing-bytes first in
-    let b₂ : bytesOf s ≡ bytesOf second = ap bytesOf e₂ ∙ crossing-bytes second in
-    let b₃ : bytesOf t ≡ bytesOf third = ap bytesOf e₃ ∙ crossing-bytes third in
-    let b₄ : bytesOf c ≡ bytesOf count = ap bytesOf e₄ ∙ crossing-bytes count in
-    let b₀ : List ℕ = bytesOf number in
-    let same : answerBytes (answer number f s t c) ≡ answerBytes (answer number first second third count) =
-    ap (λ (b : List ℕ). five b₀ b (bytesOf s) (bytesOf t) (bytesOf c)) b₁
-    ∙ ap (λ (b : List ℕ). five b₀ (bytesOf first) b (bytesOf t) (bytesOf c)) b₂
-    ∙ ap (λ (b : List ℕ). five b₀ (bytesOf first) (bytesOf second) b (bytesOf c)) b₃
-    ∙ ap (λ (b : List ℕ). five b₀ (bytesOf first) (bytesOf second) (bytesOf third) b) b₄ in
-    record { returned = refl; inAnswer = put ∙ ap (λ (b : List ℕ). cond (fits area) b area) same }
-
--- ---- identifiers
-
-numbers-both : (l m : List ℕ) → numbersBytes (l ++ m) ≡ numbersBytes l ++ numbersBytes m
+pub numbers-both : (l m : List ℕ) → numbersBytes (l ++ m) ≡ numbersBytes l ++ numbersBytes m
 unfolding numbersBytes
 numbers-both [] m = refl
-numbers-both (x ∷ l) m = ap (λ (r : List ℕ). bytesOf x ++ r) (numbers-both l m) ∙ sym (append-assoc (bytesOf x) (numbersBytes l) (numbersBytes m))
+numbers-both (x ∷ l) m = ap (λ (r : List ℕ). bigEndian x ++ r) (numbers-both l m) ∙ sym (append-assoc (bigEndian x) (numbersBytes l) (numbersBytes m))
 
-numbers-one : (x : ℕ) → numbersBytes (x ∷ []) ≡ bytesOf x
+pub numbers-one : (x : ℕ) → numbersBytes (x ∷ []) ≡ bigEndian x
 unfolding numbersBytes
 numbers-one x = refl
 
@@ -82,3 +46,16 @@ pub crossed-all : {identifiers : List ℕ} {place : ℕ} {bytes : List ℕ} → 
     → length identifiers ≡ 64 → bytes ≡ numbersBytes identifiers
 crossed-all {identifiers} {place} {bytes} c h l =
     sym (take-all (4 * place) bytes (omega (arith, c .long))) ∙ c .front ∙ ap numbersBytes (take-all place identifiers (omega arith))
+
+-- ---- numbers that bytes hold
+
+-- one more
+pub one-held : (bytes identifiers : List ℕ) (place number : ℕ) → place < length identifiers → take place identifiers ≡ numbersIn place bytes
+    → number ≡ numberAt bytes (4 * place) → take (place + 1) (set identifiers place number) ≡ numbersIn (place + 1) bytes
+unfolding numbersIn
+one-held bytes identifiers place number h e f = rw (add-one place, take-suc-set identifiers place number h, e, f)
+
+pub length-numbers : (n : ℕ) (bytes : List ℕ) → length (numbersIn n bytes) ≡ n
+unfolding numbersIn
+length-numbers zero bytes = refl
+length-numbers (suc n) bytes = omega (arith, length-append (numbersIn n bytes) (numberAt bytes (4 * n) ∷ []), length-numbers n bytes)

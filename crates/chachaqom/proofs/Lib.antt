@@ -1,5 +1,12 @@
+-- identifiers as bytes
 pub mod Crossed
+-- what the exports promise, by the ways they can go
 pub mod Promised
 pub mod Written
+-- no second answer meets a contract, and the 20 bytes lose nothing
 pub mod Unique
 pub mod Wide
+-- demand 3 about the call for C
+pub mod DemandThree
+-- the round trip about the calls for C
+pub mod RoundTrip

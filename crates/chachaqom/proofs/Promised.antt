@@ -1,101 +1,135 @@
 -- What the exports promise, by the ways they can go: an answer area of another length, and what the calls behind them left.
--- Assumes nothing.
-use mathlib.Core.Path.{_≡_, refl, ap, _∙_}
-use mathlib.Core.Bool.{true, false, cond}
+use mathlib.Core.Path.{_≡_, refl, sym, ap, _∙_}
+use mathlib.Core.Bool.{false, cond}
 use mathlib.Core.List.{List}
 use Prim.Native.Nat.{ℕ}
 use borrow.Author.Tests.{eq-eqb, ne-eqb}
 use lib.Dec.{eqb}
 use lib.ListN.{length, replicate}
+use Rattle.lists.specs.BigEndian.{AllBytes, numbersBytes}
 use Rattle.answer.specs.Answer.{Answer}
-use Rattle.answer.specs.Bytes.{answerBytes}
+use Rattle.answer.specs.Ending.{answered}
+use Rattle.answer.specs.Bytes.{Answers}
+use Rattle.answer.proofs.Exporting.{unfit-answers, unfit-leaves, fit-leaves, same-answers}
 use Rattle.network.specs.declared.Verdict.{Verdict}
 use Rattle.network.specs.Numbers.{answerOf as verdictAnswer}
 use Rattle.network.specs.Refined.{Refined}
+use Rattle.filing.specs.Areas.{Areas, holding, areLent}
 use Rattle.scene.specs.declared.Reading.{Reading}
 use Rattle.scene.specs.declared.Reading.the-variants.{WrongLength}
-use Rattle.scene.specs.Numbers.{answerOf as readingAnswer}
-use Rattle.scene.specs.Reading as reading
-use Rattle.scene.specs.Reads.{Reads, cellsAfter}
-use Rattle.chachaqom.specs.Exports.{fits, lentBy, numbersBytes, RefineExport, ReadExport}
-use Rattle.chachaqom.specs.Inner.{Answers}
+use Rattle.scene.specs.declared.Refusal.{Refusal}
+use Rattle.scene.specs.declared.Refusal.the-variants.{NoRegion, CutShort, UnknownKind, IdentifierZero, DeclaredTwice, TooManyRegions, NotDeclared, EmptySet, BytesLeft}
+use Rattle.scene.specs.Numbers.{numberOf, answerOf as readingAnswer}
+use Rattle.scene.specs.Reading.{readOf, refusedAt}
+use Rattle.scene.specs.Reads.{Reads, areasAfter}
+use Rattle.writer.specs.declared.Writing.{Writing}
+use Rattle.writer.specs.Numbers.{answerOf as writingAnswer}
+use Rattle.writer.specs.Writes.{Writes}
+use Rattle.chachaqom.specs.RefineExport.{RefineExport}
+use Rattle.chachaqom.specs.ReadExport.{lentBytes, ReadExport}
+use Rattle.chachaqom.specs.WriteExport.{identifiersLent, WriteExport}
 
 -- ---- refining
 
 -- an answer area of another length
 pub refine-unfit : (n : ℕ) (cells first second answer : List ℕ) → (length answer ≡ 20 → ⊥)
     → RefineExport n cells first second answer first second answer 2
-refine-unfit n cells first second answer h =
-    let b : fits answer ≡ false = ne-eqb (length answer) 20 h in
-    record { returned = rw b; inAnswer = rw b; inFirst = rw b; inSecond = rw b }
+refine-unfit n cells first second answer h = record {
+  answers = unfit-answers _ answer h;
+  inFirst = unfit-leaves answer _ first h;
+  inSecond = unfit-leaves answer _ second h;
+}
 
 -- what the refinement left, and its verdict's numbers
 pub refine-answered : {n : ℕ} {cells first second answer first′ second′ answer′ : List ℕ} {number : ℕ} {verdict : Verdict} {numbers : Answer}
     → length answer ≡ 20 → Refined n cells first second first′ second′ verdict → numbers ≡ verdictAnswer verdict
     → Answers numbers answer answer′ number → RefineExport n cells first second answer first′ second′ answer′ number
-refine-answered {answer = answer} h r e a =
-    let b : fits answer ≡ true = eq-eqb (length answer) 20 h in
-    let same = e ∙ r .answer in
-    record {
-      returned = rw b (a .returned ∙ ap (λ (x : Answer). x .number) same);
-      inAnswer = a .inAnswer ∙ rw b (ap answerBytes same);
-      inFirst = rw b (r .inFirst);
-      inSecond = rw b (r .inSecond);
-    }
+refine-answered {first = first} {second = second} {answer = answer} h r e a = record {
+  answers = same-answers (e ∙ r .answer) a;
+  inFirst = fit-leaves answer first h (r .inFirst);
+  inSecond = fit-leaves answer second h (r .inSecond);
+}
 
 -- ---- reading
 
 -- an answer area of another length
 pub read-unfit : (scene identifiers cells answer : List ℕ) → (length answer ≡ 20 → ⊥)
     → ReadExport scene identifiers cells answer identifiers cells answer 2
-read-unfit scene identifiers cells answer h =
-    let b : fits answer ≡ false = ne-eqb (length answer) 20 h in
-    record { returned = rw b; inAnswer = rw b; inIdentifiers = rw b; inCells = rw b }
+read-unfit scene identifiers cells answer h = record {
+  answers = unfit-answers _ answer h;
+  inIdentifiers = unfit-leaves answer _ identifiers h;
+  inCells = unfit-leaves answer _ cells h;
+}
 
--- identifiers of another length
-nothing-lent : (scene cells : List ℕ) → reading.readOf scene 0 (length cells) ≡ reading.refusedAt 2 0
-unfolding reading.readOf
-nothing-lent scene cells = refl
+-- identifiers of another length: 2, and both areas as they were
+nothing-lent : (scene identifiers cells : List ℕ) → (length identifiers ≡ 256 → ⊥) → readOf scene (lentBytes identifiers cells) ≡ refusedAt 2 0
+unfolding readOf areLent
+nothing-lent scene identifiers cells h = rw (ne-eqb (length identifiers) 256 h)
 
-untouched : (cells : List ℕ) → cells ≡ cellsAfter (reading.refusedAt 2 0) cells
-unfolding cellsAfter
-untouched cells = refl
+untouched : (areas : Areas) → areasAfter (refusedAt 2 0) areas ≡ areas
+unfolding areasAfter
+untouched areas = refl
 
 pub read-unlent : {scene identifiers cells answer answer′ : List ℕ} {number : ℕ} {numbers : Answer} → length answer ≡ 20
     → (length identifiers ≡ 256 → ⊥) → numbers ≡ readingAnswer WrongLength → Answers numbers answer answer′ number
     → ReadExport scene identifiers cells answer identifiers cells answer′ number
 read-unlent {scene} {identifiers} {cells} {answer} h l e a =
-    let b : fits answer ≡ true = eq-eqb (length answer) 20 h in
-    let none : lentBy identifiers ≡ 0 = rw (ne-eqb (length identifiers) 256 l) in
-    let outcome = nothing-lent scene cells in
+    let ending : readOf scene (lentBytes identifiers cells) ≡ refusedAt 2 0 = nothing-lent scene identifiers cells l in
     record {
-      returned = rw (b, none, outcome) (a .returned ∙ ap (λ (x : Answer). x .number) e);
-      inAnswer = a .inAnswer ∙ rw (b, none, outcome) (ap answerBytes e);
-      inIdentifiers = rw (b, none, outcome);
-      inCells = rw (b, none, outcome) (untouched cells);
+      answers = same-answers (e ∙ sym (ap answered ending)) a;
+      inIdentifiers = fit-leaves answer identifiers h (rw ending);
+      inCells = fit-leaves answer cells h
+          (rw ending (sym (ap (λ (x : Areas). x .cells) (untouched (lentBytes identifiers cells)))));
     }
 
 -- what the reading left, and its numbers; after 2 the identifiers are as they were
-pub read-answered : {scene identifiers cells answer places identifiers′ cells′ answer′ : List ℕ} {number : ℕ} {told : Reading} {numbers : Answer}
-    → length answer ≡ 20 → length identifiers ≡ 256 → Reads scene (replicate 64 0) cells places cells′ told
-    → numbers ≡ readingAnswer told → identifiers′ ≡ cond (eqb (numbers .number) 2) identifiers (numbersBytes places)
-    → Answers numbers answer answer′ number → ReadExport scene identifiers cells answer identifiers′ cells′ answer′ number
-read-answered {scene} {identifiers} {cells} {answer} {places} h l r e i a =
-    let b : fits answer ≡ true = eq-eqb (length answer) 20 h in
-    let all : lentBy identifiers ≡ 64 = rw (eq-eqb (length identifiers) 256 l) in
-    let same = e ∙ r .answer in
+pub read-answered : {scene identifiers cells answer numbers identifiers′ cells′ answer′ : List ℕ} {number : ℕ} {reading : Reading} {told : Answer}
+    → length answer ≡ 20 → length identifiers ≡ 256 → Reads scene (holding (replicate 64 0) cells) (holding numbers cells′) reading
+    → identifiers′ ≡ cond (eqb (readingAnswer reading .number) 2) identifiers (numbersBytes numbers) → told ≡ readingAnswer reading
+    → Answers told answer answer′ number → ReadExport scene identifiers cells answer identifiers′ cells′ answer′ number
+read-answered {scene} {identifiers} {cells} {answer} {numbers} h l r i e a =
+    let lent : lentBytes identifiers cells ≡ holding (replicate 64 0) cells = rw (eq-eqb (length identifiers) 256 l) in
     record {
-      returned = rw (b, all) (a .returned ∙ ap (λ (x : Answer). x .number) same);
-      inAnswer = a .inAnswer ∙ rw (b, all) (ap answerBytes same);
-      inIdentifiers = rw (b, all) (i ∙ ap (λ (x : Answer). cond (eqb (x .number) 2) identifiers (numbersBytes places)) same
-          ∙ ap (λ (p : List ℕ). cond (eqb (reading.answered (reading.readOf scene 64 (length cells)) .number) 2) identifiers (numbersBytes p)) (r .identifiers));
-      inCells = rw (b, all) (r .cells);
+      answers = rw lent (same-answers (e ∙ r .answer) a);
+      inIdentifiers = fit-leaves answer identifiers h
+          (rw lent
+          (i ∙ ap (λ (x : Answer). cond (eqb (x .number) 2) identifiers (numbersBytes numbers)) (r .answer)
+          ∙ ap (λ (x : Areas). cond (eqb (answered (readOf scene (holding (replicate 64 0) cells)) .number) 2) identifiers (numbersBytes (x .identifiers))) (r .areas)));
+      inCells = fit-leaves answer cells h (rw lent (ap (λ (x : Areas). x .cells) (r .areas)));
     }
 
--- the identifiers after 2, and after any other number
-pub kept-at : {number : ℕ} (identifiers bytes : List ℕ) → number ≡ 2 → identifiers ≡ cond (eqb number 2) identifiers bytes
-kept-at {number} identifiers bytes e = rw (eq-eqb number 2 e)
+-- no refused record has the number 2
+pub not-two : (refusal : Refusal) → eqb (numberOf refusal) 2 ≡ false
+not-two NoRegion = refl
+not-two CutShort = refl
+not-two UnknownKind = refl
+not-two IdentifierZero = refl
+not-two DeclaredTwice = refl
+not-two TooManyRegions = refl
+not-two NotDeclared = refl
+not-two EmptySet = refl
+not-two BytesLeft = refl
 
-pub written-past : {number : ℕ} {identifiers′ bytes : List ℕ} (identifiers : List ℕ) → (number ≡ 2 → ⊥) → identifiers′ ≡ bytes
-    → identifiers′ ≡ cond (eqb number 2) identifiers bytes
-written-past {number} identifiers h e = rw (ne-eqb number 2 h) e
+-- ---- writing
+
+-- an answer area of another length
+pub write-unfit : (n : ℕ) (identifiers cells buffer answer : List ℕ) → AllBytes identifiers → AllBytes cells → (length answer ≡ 20 → ⊥)
+    → WriteExport n identifiers cells buffer answer buffer answer 2
+write-unfit n identifiers cells buffer answer b d h = record {
+  answers = unfit-answers _ answer h;
+  inBuffer = unfit-leaves answer _ buffer h;
+  identifiers-bytes = b;
+  cells-bytes = d;
+}
+
+-- what the writer left, and its answer's numbers
+pub write-answered : {n : ℕ} {identifiers cells buffer answer buffer′ answer′ : List ℕ} {number : ℕ} {writing : Writing} {numbers : Answer}
+    → AllBytes identifiers → AllBytes cells → length answer ≡ 20 → Writes n (identifiersLent n identifiers) cells buffer buffer′ writing
+    → numbers ≡ writingAnswer writing → Answers numbers answer answer′ number
+    → WriteExport n identifiers cells buffer answer buffer′ answer′ number
+write-answered {buffer = buffer} {answer = answer} b d h w e a = record {
+  answers = same-answers (e ∙ w .answer) a;
+  inBuffer = fit-leaves answer buffer h (w .buffer);
+  identifiers-bytes = b;
+  cells-bytes = d;
+}

@@ -1,30 +1,36 @@
 -- Every number of an answer has 32 bits, so the 20 bytes lose nothing: places are below 64 or at most 32,768, and counts at most
--- 28,673. Assumes nothing.
-use mathlib.Core.Path.{_≡_, refl}
-use mathlib.Core.Bool.{Bool, true, false, not, _||_}
+-- 28,673.
+use mathlib.Core.Path.{_≡_}
+use mathlib.Core.Bool.{not, _||_}
 use mathlib.Core.List.{List}
-use Prim.Native.Nat.{ℕ, _+_, _*_, _≤_, _<_}
+use Prim.Native.Nat.{ℕ, _*_, _≤_, _<_}
 use native.Mathlib.Omega.{arith}
-use borrow.Author.Tests.{ltb-false, eq-eqb}
+use borrow.Author.Tests.{eq-eqb, ltb-true, ltb-false, not-false}
 use lib.Dec.{eqb, ltb}
-use lib.ListN.{length, getD}
+use lib.ListN.{length}
+use Rattle.lists.proofs.BigEndianLaws.{joined}
 use Rattle.answer.specs.Answer.{Answer}
-use Rattle.answer.specs.Bytes.{numberAt, answerBytes}
-use Rattle.answer.proofs.BytesLaws.{joined}
-use Rattle.refinement.specs.Outcome as refinement
+use Rattle.answer.specs.Ending.{Ending, accepted, refused, answered}
+use Rattle.answer.specs.Bytes.{Answers}
+use Rattle.answer.proofs.Stops.{by-stop}
+use Rattle.matrix.specs.Square.{inRange, hasSquare}
+use Rattle.matrix.specs.Cells.{firstEmpty}
+use Rattle.matrix.proofs.CellLaws.{row-lt, column-lt, range-holds}
+use Rattle.refinement.specs.Ends.{Ends, NamesRegions, a-region, a-pair, a-triple}
 use Rattle.refinement.specs.Refine.{refine, refined}
 use Rattle.refinement.proofs.Slack.{most-rounds-le}
-use Rattle.refinement.proofs.Ending.{Ends, Names, a-region, a-pair, a-triple, refine-ends}
+use Rattle.refinement.proofs.Ending.{refine-ends}
 use Rattle.refinement.proofs.Limits.{by-range}
-use Rattle.scene.specs.Format.{mostBytes, lentIdentifiers, lentCells}
-use Rattle.scene.specs.Statements.{regions}
-use Rattle.scene.specs.Record.{refused}
-use Rattle.scene.specs.Reading as reading
-use Rattle.scene.proofs.Numbered.{Numbered}
-use Rattle.scene.proofs.Reasons.{Reason, no-byte, unknown-kind, region-cut, zero-declared, declared-twice, too-many, statement-cut, from-undeclared, to-undeclared, empty-set, no-region, bytes-left, refused-numbered}
-use Rattle.scene.proofs.Reached.{reached-within, reached-few}
-use Rattle.scene.proofs.Endings.{stopped, finished}
-use Rattle.chachaqom.specs.Exports.{lentBy, RefineExport, ReadExport}
+use Rattle.filing.specs.Areas.{Areas}
+use Rattle.scene.specs.Reading.{readOf}
+use Rattle.scene.proofs.Answers.{read-small}
+use Rattle.scene.specs.Format.{mostBytes}
+use Rattle.writer.specs.Scene.{sceneOf}
+use Rattle.writer.specs.Writing.{isZero, firstBad, checked, writeOf}
+use Rattle.chachaqom.specs.RefineExport.{RefineExport}
+use Rattle.chachaqom.specs.ReadExport.{lentBytes, ReadExport}
+use Rattle.chachaqom.specs.WriteExport.{identifiersLent, WriteExport}
+use Rattle.chachaqom.specs.ReadBack.{ReadBack}
 
 -- each of the five numbers has 32 bits
 pub record Fits (a : Answer) : Type 0 where
@@ -35,97 +41,81 @@ pub record Fits (a : Answer) : Type 0 where
   pub count : a .count < 4294967296
 
 -- so each is read back from its place of the 20 bytes
-pub record ReadBack (a : Answer) (bytes : List ℕ) : Type 0 where
-  pub number : numberAt bytes 0 ≡ a .number
-  pub first : numberAt bytes 4 ≡ a .first
-  pub second : numberAt bytes 8 ≡ a .second
-  pub third : numberAt bytes 12 ≡ a .third
-  pub count : numberAt bytes 16 ≡ a .count
-
-pub read-back : (a : Answer) → Fits a → ReadBack a (answerBytes a)
-read-back a f = record {
-  number = joined (a .number) (f .number);
-  first = joined (a .first) (f .first);
-  second = joined (a .second) (f .second);
-  third = joined (a .third) (f .third);
-  count = joined (a .count) (f .count);
-}
+pub read-back : {a : Answer} {area area′ : List ℕ} {number : ℕ} → Fits a → Answers a area area′ number → length area ≡ 20 → ReadBack a area′
+read-back {a} {area} f x h =
+    rw (x .inAnswer, eq-eqb (length area) 20 h)
+    (record {
+      number = joined (a .number) (f .number);
+      first = joined (a .first) (f .first);
+      second = joined (a .second) (f .second);
+      third = joined (a .third) (f .third);
+      count = joined (a .count) (f .count);
+    })
 
 -- ---- refining
 
-named-fits : {n number i k j count : ℕ} → n ≤ 64 → Names n number i k j count
-    → Fits (refinement.answered (refinement.refused number i k j count))
-named-fits few (a-region e r) = omega arith
-named-fits few (a-pair e r) = omega arith
-named-fits {n} few (a-triple e r) = omega (arith, most-rounds-le n few)
+named-fits : {n : ℕ} {numbers : Answer} → n ≤ 64 → NamesRegions n numbers → Fits numbers
+named-fits few (a-region x) = omega (arith, x .number, x .inside, x .second, x .third, x .counted)
+named-fits few (a-pair x) = omega (arith, x .number, x .order, x .inside, x .third, x .counted)
+named-fits {n} few (a-triple x) =
+    omega (arith, x .number, x .three .first, x .three .middle, x .three .last, x .few, most-rounds-le n few)
 
-ending-fits : (n : ℕ) (m : List ℕ) (ending : refinement.Outcome) → n ≤ 64 → Ends n m ending → Fits (refinement.answered ending)
-ending-fits n m (refinement.accepted count w) few e = omega (arith, most-rounds-le n few)
-ending-fits n m (refinement.refused number i k j count) few e = named-fits few (e .names)
+ending-fits : (n : ℕ) (m : List ℕ) (ending : Ending (List ℕ)) → n ≤ 64 → Ends n m ending → Fits (answered ending)
+ending-fits n m (accepted network count) few e = omega (arith, e .few, most-rounds-le n few)
+ending-fits n m (refused numbers) few e = named-fits few (e .names)
 
-pub refined-fits : (n : ℕ) (cells : List ℕ) (first second : ℕ) → ((k : ℕ) → getD cells k 0 < 256)
-    → Fits (refinement.answered (refined n cells first second))
-refined-fits n cells first second byte =
-    by-range (λ (o : refinement.Outcome). Fits (refinement.answered o)) n cells first second (omega arith) (omega arith)
-    (λ range. ending-fits n cells (refine n cells) (range .few) (refine-ends n cells (record { byte = λ i j hi hj. byte (i * n + j) })))
-
--- ---- reading
-
--- a refused record is named at a byte of the scene, or at its length
-named-within : {scene identifiers : List ℕ} {at number place : ℕ} → at ≤ length scene
-    → Reason scene identifiers at (refused number place)
-    → place ≤ length scene
-named-within h (no-byte l) = omega arith
-named-within h (unknown-kind l r s e) = h
-named-within h (region-cut b l) = h
-named-within h (zero-declared w z) = h
-named-within h (declared-twice name p r l) = h
-named-within h (too-many name r l m) = h
-named-within h (statement-cut b l) = h
-named-within h (from-undeclared w f) = h
-named-within h (to-undeclared a w f t) = h
-named-within h (empty-set a b w f t z) = h
-named-within h (no-region w z) = h
-named-within h (bytes-left w z l) = omega arith
-
-records-fit : (scene : List ℕ) (outcome : reading.Outcome) → length scene ≤ mostBytes → reading.records scene ≡ outcome
-    → Fits (reading.answered outcome)
-records-fit scene (reading.accepted said) short e =
-    let few : regions said ≤ 64 = reached-few scene (finished scene e .reached) in omega arith
-records-fit scene (reading.refusedAt number place) short e =
-    let s = stopped scene e in
-    let n : Numbered number = refused-numbered (s .why-there) in
-    let p : place ≤ length scene = named-within (reached-within scene (s .reached)) (s .why-there) in
-    omega arith
-
-pub read-fits : (scene : List ℕ) (identifiers cells : ℕ) → Fits (reading.answered (reading.readOf scene identifiers cells))
-unfolding reading.readOf
-read-fits scene identifiers cells =
-    by-lengths (not (eqb identifiers lentIdentifiers) || not (eqb cells lentCells))
-  where
-    by-limit : (b : Bool) → ltb mostBytes (length scene) ≡ b
-        → Fits (reading.answered (reading.stop b (reading.refusedAt 3 mostBytes) (λ _. reading.records scene)))
-    by-limit true e = omega arith
-    by-limit false e = records-fit scene (reading.records scene) (ltb-false mostBytes (length scene) e) refl
-
-    by-lengths : (b : Bool)
-        → Fits (reading.answered (reading.stop b (reading.refusedAt 2 0) (λ _. reading.stop (ltb mostBytes (length scene)) (reading.refusedAt 3 mostBytes) (λ _. reading.records scene))))
-    by-lengths true = omega arith
-    by-lengths false = by-limit (ltb mostBytes (length scene)) refl
-
--- ---- the exports
+refined-fits : (n : ℕ) (cells : List ℕ) (first second : ℕ) → Fits (answered (refined n cells first second))
+refined-fits n cells first second =
+    by-range (λ (o : Ending (List ℕ)). Fits (answered o)) n cells first second (omega arith) (omega arith)
+    (λ range. ending-fits n cells (refine n cells) (range .square .few) (refine-ends n cells))
 
 -- what stands in an answer's bytes after a call can be read back from them
 pub refine-read-back : {n : ℕ} {cells first second answer first′ second′ answer′ : List ℕ} {number : ℕ}
-    → RefineExport n cells first second answer first′ second′ answer′ number → length answer ≡ 20 → ((k : ℕ) → getD cells k 0 < 256)
-    → ReadBack (refinement.answered (refined n cells (length first) (length second))) answer′
-refine-read-back {n} {cells} {first} {second} {answer} x h byte =
-    let a : Answer = refinement.answered (refined n cells (length first) (length second)) in
-    rw (x .inAnswer, eq-eqb (length answer) 20 h) (read-back a (refined-fits n cells (length first) (length second) byte))
+    → RefineExport n cells first second answer first′ second′ answer′ number → length answer ≡ 20
+    → ReadBack (answered (refined n cells (length first) (length second))) answer′
+refine-read-back {n} {cells} {first} {second} x h =
+    read-back (refined-fits n cells (length first) (length second)) (x .answers) h
+
+-- ---- reading
+
+read-fits : (scene : List ℕ) (areas : Areas) → Fits (answered (readOf scene areas))
+read-fits scene areas = let s = read-small scene areas in omega (arith, s .number, s .offset, s .second, s .third, s .count)
 
 pub read-read-back : {scene identifiers cells answer identifiers′ cells′ answer′ : List ℕ} {number : ℕ}
     → ReadExport scene identifiers cells answer identifiers′ cells′ answer′ number → length answer ≡ 20
-    → ReadBack (reading.answered (reading.readOf scene (lentBy identifiers) (length cells))) answer′
-read-read-back {scene} {identifiers} {cells} {answer} x h =
-    let a : Answer = reading.answered (reading.readOf scene (lentBy identifiers) (length cells)) in
-    rw (x .inAnswer, eq-eqb (length answer) 20 h) (read-back a (read-fits scene (lentBy identifiers) (length cells)))
+    → ReadBack (answered (readOf scene (lentBytes identifiers cells))) answer′
+read-read-back {scene} {identifiers} {cells} x h = read-back (read-fits scene (lentBytes identifiers cells)) (x .answers) h
+
+-- ---- writing
+
+module _ (n : ℕ) (few : n ≤ 64) (identifiers cells : List ℕ) (room : ℕ) where
+  abbrev Small : Ending (List ℕ) → Type 0
+  Small e = Fits (answered e)
+
+  checked-fits : Fits (answered (checked n identifiers cells room))
+  unfolding checked
+  checked-fits =
+      let p : ℕ = firstBad n identifiers in
+      let e : ℕ = firstEmpty (n * n) cells in
+      let scene : List ℕ = sceneOf n identifiers cells in
+      by-stop Small (ltb p n) _ _
+      (λ h. by-stop Small (isZero identifiers p) _ _ (λ _. omega (arith, ltb-true p n h)) (λ _. omega (arith, ltb-true p n h)))
+      (λ _. by-stop Small (ltb e (n * n)) _ _
+      (λ h. omega (arith, row-lt n e (ltb-true e (n * n) h), column-lt n e (ltb-true e (n * n) h)))
+      (λ _. by-stop Small (ltb mostBytes (length scene)) _ _
+      (λ _. omega arith)
+      (λ h. by-stop Small (ltb room (length scene)) _ _ (λ _. omega arith) (λ _. omega (arith, ltb-false mostBytes (length scene) h)))))
+
+write-fits : (n : ℕ) (identifiers cells : List ℕ) (room : ℕ) → Fits (answered (writeOf n identifiers cells room))
+unfolding writeOf
+write-fits n identifiers cells room =
+    by-stop (λ (o : Ending (List ℕ)). Fits (answered o)) (not (inRange n)) _ _ (λ _. omega arith)
+    (λ h. by-stop (λ (o : Ending (List ℕ)). Fits (answered o)) (not (eqb (length identifiers) n) || not (hasSquare n cells)) _ _
+    (λ _. omega arith)
+    (λ _. checked-fits n (range-holds n (not-false _ h) .1) identifiers cells room))
+
+pub write-read-back : {n : ℕ} {identifiers cells buffer answer buffer′ answer′ : List ℕ} {number : ℕ}
+    → WriteExport n identifiers cells buffer answer buffer′ answer′ number → length answer ≡ 20
+    → ReadBack (answered (writeOf n (identifiersLent n identifiers) cells (length buffer))) answer′
+write-read-back {n} {identifiers} {cells} {buffer} x h =
+    read-back (write-fits n (identifiersLent n identifiers) cells (length buffer)) (x .answers) h

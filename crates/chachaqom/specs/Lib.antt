@@ -1,3 +1,6 @@
-pub mod Exports
+pub mod RefineExport
+pub mod ReadExport
 pub mod WriteExport
-pub mod Inner
+pub mod ReadBack
+pub mod RefineDemand
+pub mod RoundTripExports

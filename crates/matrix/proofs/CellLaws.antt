@@ -1,19 +1,21 @@
 -- The cells of a matrix by place and by row and column, matrices that are equal by their cells, and what the searches for the
--- first empty and the first changed cell say. Assumes nothing.
+-- first empty and the first changed cell say.
 use mathlib.Core.Path.{_≡_, refl, sym, ap, _∙_, subst}
-use mathlib.Core.Bool.{Bool, not, true≢false}
+use mathlib.Core.Bool.{Bool, true, false, not, true≢false}
 use mathlib.Core.List.{List}
 use Prim.Native.Nat.{ℕ, zero, suc, _+_, _*_, _≤_, _<_}
 use native.Mathlib.Nat.{le-trans, le-of-suc-le-suc, not-suc-le-zero, zero-add, add-zero, div-lt-iff-lt-mul, mod-lt, div-add-mod', mul-add-div-right, div-eq-of-lt, mul-add-mod-self-right, mod-eq-of-lt, mul-le-mul-right}
 use native.Mathlib.Omega.{arith}
 use lib.Dec.{eqb}
-use lib.ListN.{length, getD}
+use lib.ListN.{length, getD, set}
 use lib.Seq.{ext-getD}
-use borrow.Author.Tests.{eqb-true, eqb-false, eq-eqb, not-true, not-false}
-use Rattle.region.specs.Least.{least}
-use Rattle.region.proofs.Splits.{split-lt}
-use Rattle.region.proofs.LeastLaws.{least-is}
-use Rattle.matrix.specs.Cells.{cell, row, column, listFrom, grid, firstEmpty, firstChange, emptyPlace}
+use borrow.Author.Tests.{eqb-true, eqb-false, eq-eqb, ne-eqb, le-leb, lt-leb, lt-ltb, not-true, not-false}
+use Rattle.lists.specs.Least.{least}
+use Rattle.lists.proofs.Splits.{split-lt}
+use Rattle.lists.proofs.LeastLaws.{least-is}
+use Rattle.relation.specs.Sets.{intersect}
+use Rattle.matrix.specs.Square.{inRange, hasSquare}
+use Rattle.matrix.specs.Cells.{cell, row, column, listFrom, grid, firstEmpty, firstChange, cellOrEmpty, narrowedCells}
 
 -- ---- places, rows and columns
 
@@ -93,8 +95,8 @@ grid-same n f g h =
 -- ---- the first empty cell
 
 -- it is empty
-pub empty-at : (n : ℕ) (m : List ℕ) → firstEmpty n m < n * n
-    → cell n m (row n (firstEmpty n m)) (column n (firstEmpty n m)) ≡ 0
+pub empty-at : (n : ℕ) (m : List ℕ) → firstEmpty (n * n) m < n * n
+    → cell n m (row n (firstEmpty (n * n) m)) (column n (firstEmpty (n * n) m)) ≡ 0
 unfolding firstEmpty
 empty-at n m h =
     let test : ℕ → Bool = λ p. eqb (getD m p 0) 0 in
@@ -102,19 +104,19 @@ empty-at n m h =
     rw (place-back n p) (eqb-true (getD m p 0) 0 (least-is (n * n) test .found h))
 
 -- and none before it is
-pub empty-first : (n : ℕ) (m : List ℕ) (i j : ℕ) → i * n + j < firstEmpty n m → cell n m i j ≡ 0 → ⊥
+pub empty-first : (n : ℕ) (m : List ℕ) (i j : ℕ) → i * n + j < firstEmpty (n * n) m → cell n m i j ≡ 0 → ⊥
 unfolding firstEmpty
 empty-first n m i j h e =
     true≢false (sym (eq-eqb (cell n m i j) 0 e) ∙ least-is (n * n) (λ p. eqb (getD m p 0) 0) .before (i * n + j) h)
 
-pub no-empty : (n : ℕ) (m : List ℕ) → n * n ≤ firstEmpty n m → (i j : ℕ) → i < n → j < n → cell n m i j ≡ 0 → ⊥
+pub no-empty : (n : ℕ) (m : List ℕ) → n * n ≤ firstEmpty (n * n) m → (i j : ℕ) → i < n → j < n → cell n m i j ≡ 0 → ⊥
 no-empty n m h i j hi hj = empty-first n m i j (le-trans (place-lt n i j hi hj) h)
 
 -- where no cell is empty there is no first
-pub none-empty : (n : ℕ) (m : List ℕ) → ((i j : ℕ) → i < n → j < n → cell n m i j ≡ 0 → ⊥) → n * n ≤ firstEmpty n m
+pub none-empty : (n : ℕ) (m : List ℕ) → ((i j : ℕ) → i < n → j < n → cell n m i j ≡ 0 → ⊥) → n * n ≤ firstEmpty (n * n) m
 none-empty n m h =
-    split-lt (firstEmpty n m) (n * n)
-    (λ l. absurd (h (row n (firstEmpty n m)) (column n (firstEmpty n m)) (row-lt n _ l) (column-lt n _ l) (empty-at n m l)))
+    split-lt (firstEmpty (n * n) m) (n * n)
+    (λ l. absurd (h (row n (firstEmpty (n * n) m)) (column n (firstEmpty (n * n) m)) (row-lt n _ l) (column-lt n _ l) (empty-at n m l)))
     (λ l. l)
 
 -- ---- the first change
@@ -127,7 +129,7 @@ pub record Change (n : ℕ) (a b : List ℕ) : Type 0 where
   pub second-lt : second < n
   pub differs : cell n a first second ≡ cell n b first second → ⊥
 
-pub no-change : (n : ℕ) (a b : List ℕ) → n * n ≤ firstChange n a b → (i j : ℕ) → i < n → j < n → cell n a i j ≡ cell n b i j
+pub no-change : (n : ℕ) (a b : List ℕ) → n * n ≤ firstChange (n * n) a b → (i j : ℕ) → i < n → j < n → cell n a i j ≡ cell n b i j
 unfolding firstChange
 no-change n a b h i j hi hj =
     let test : ℕ → Bool = λ p. not (eqb (getD a p 0) (getD b p 0)) in
@@ -135,7 +137,7 @@ no-change n a b h i j hi hj =
     (not-false (eqb (cell n a i j) (cell n b i j))
     (least-is (n * n) test .before (i * n + j) (le-trans (place-lt n i j hi hj) h)))
 
-pub some-change : (n : ℕ) (a b : List ℕ) → firstChange n a b < n * n → Change n a b
+pub some-change : (n : ℕ) (a b : List ℕ) → firstChange (n * n) a b < n * n → Change n a b
 unfolding firstChange
 some-change n a b h =
     let test : ℕ → Bool = λ p. not (eqb (getD a p 0) (getD b p 0)) in
@@ -151,13 +153,43 @@ some-change n a b h =
 
 -- where every cell is the same there is none
 pub none-changed : (n : ℕ) (a b : List ℕ) → ((i j : ℕ) → i < n → j < n → cell n a i j ≡ cell n b i j)
-    → n * n ≤ firstChange n a b
+    → n * n ≤ firstChange (n * n) a b
 none-changed n a b h =
-    split-lt (firstChange n a b) (n * n)
+    split-lt (firstChange (n * n) a b) (n * n)
     (λ l. let z = some-change n a b l in absurd (z .differs (h (z .first) (z .second) (z .first-lt) (z .second-lt))))
     (λ l. l)
 
--- of just the cells of n regions
-pub empty-place : (n : ℕ) (m : List ℕ) → length m ≡ n * n → emptyPlace m ≡ firstEmpty n m
-unfolding emptyPlace firstEmpty
-empty-place n m e = rw e
+-- ---- a cell that may not be there
+
+pub cell-there : {n : ℕ} (m : List ℕ) {i j : ℕ} → n ≤ 64 → i < n → j < n → cellOrEmpty n m i j ≡ cell n m i j
+unfolding cellOrEmpty
+cell-there {n} m {i} {j} few hi hj = rw (le-leb n 64 few, lt-ltb i n hi, lt-ltb j n hj)
+
+pub narrowed-there : {n : ℕ} (m : List ℕ) {i j : ℕ} (added : ℕ) → n ≤ 64 → i < n → j < n
+    → narrowedCells n m i j added ≡ set m (i * n + j) (intersect (cell n m i j) added)
+unfolding narrowedCells
+narrowed-there {n} m {i} {j} added few hi hj = rw (le-leb n 64 few, lt-ltb i n hi, lt-ltb j n hj)
+
+-- ---- how many regions
+
+pub range-holds : (n : ℕ) → inRange n ≡ true → (1 ≤ n) × (n ≤ 64)
+unfolding inRange
+range-holds n e =
+    split-lt n 1 (λ h. absurd (true≢false (sym e ∙ rw (lt-leb 1 n h))))
+    (λ some. split-lt 64 n (λ h. absurd (true≢false (sym e ∙ rw (le-leb 1 n some, lt-leb n 64 h)))) (λ few. (some, few)))
+
+pub in-range : (n : ℕ) → 1 ≤ n → n ≤ 64 → inRange n ≡ true
+unfolding inRange
+in-range n some few = rw (le-leb 1 n some, le-leb n 64 few)
+
+pub square-holds : (n : ℕ) (m : List ℕ) → hasSquare n m ≡ true → length m ≡ n * n
+unfolding hasSquare
+square-holds n m e = eqb-true (length m) (n * n) e
+
+pub has-square : (n : ℕ) (m : List ℕ) → length m ≡ n * n → hasSquare n m ≡ true
+unfolding hasSquare
+has-square n m e = eq-eqb (length m) (n * n) e
+
+pub no-square : (n : ℕ) (m : List ℕ) → (length m ≡ n * n → ⊥) → hasSquare n m ≡ false
+unfolding hasSquare
+no-square n m e = ne-eqb (length m) (n * n) e

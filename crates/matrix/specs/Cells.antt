@@ -1,10 +1,12 @@
--- A matrix of n regions is the list of its cells, row by row: cell (i, j) speaks of region i towards region j. Assumes nothing.
+-- A matrix of n regions is the list of its cells, row by row: cell (i, j) speaks of region i towards region j.
 use Prim.Native.Nat.{ℕ, zero, suc, _+_, _*_, _/_, _%_}
-use mathlib.Core.Bool.{not}
+use mathlib.Core.Bool.{Bool, not, cond, _&&_}
 use mathlib.Core.List.{List, [], _∷_}
-use lib.Dec.{eqb}
-use lib.ListN.{length, getD}
-use Rattle.region.specs.Least.{least}
+use lib.Dec.{eqb, ltb, leb}
+use lib.ListN.{getD, set}
+use Rattle.lists.specs.Least.{least}
+use Rattle.relation.specs.Sets.{empty, intersect}
+use Rattle.matrix.specs.Square.{mostRegions}
 
 -- cell (i, j) of the matrix m
 abbrev pub cell : ℕ → List ℕ → ℕ → ℕ → ℕ
@@ -26,14 +28,23 @@ listFrom (suc count) start f = f start ∷ listFrom count (suc start) f
 unfoldable pub grid : ℕ → (ℕ → ℕ → ℕ) → List ℕ
 grid n f = listFrom (n * n) 0 (λ p. f (row n p) (column n p))
 
--- the first empty cell in row order, as its place in the list; n * n if there is none
+-- the first empty cell in row order among the first `count` cells, as its place in the list; `count` if there is none
 unfoldable pub firstEmpty : ℕ → List ℕ → ℕ
-firstEmpty n m = least (n * n) (λ p. eqb (getD m p 0) 0)
+firstEmpty count m = least count (λ p. eqb (getD m p 0) empty)
 
--- the first place where two matrices differ; n * n if there is none
+-- the first place among the first `count` cells where two matrices differ; `count` if there is none
 unfoldable pub firstChange : ℕ → List ℕ → List ℕ → ℕ
-firstChange n new old = least (n * n) (λ p. not (eqb (getD new p 0) (getD old p 0)))
+firstChange count new old = least count (λ p. not (eqb (getD new p 0) (getD old p 0)))
 
--- the first empty entry of a list of cells, as its place; the length if there is none
-unfoldable pub emptyPlace : List ℕ → ℕ
-emptyPlace cells = least (length cells) (λ p. eqb (getD cells p 0) 0)
+-- there is a cell (i, j) in rows of a length, which is at most 64
+abbrev pub isCell : ℕ → ℕ → ℕ → Bool
+isCell width i j = leb width mostRegions && (ltb i width && ltb j width)
+
+-- cell (i, j), and the empty set where there is no such cell
+unfoldable pub cellOrEmpty : ℕ → List ℕ → ℕ → ℕ → ℕ
+cellOrEmpty width m i j = cond (isCell width i j) (cell width m i j) empty
+
+-- the cells after a set is intersected into cell (i, j), if there is such a cell
+unfoldable pub narrowedCells : ℕ → List ℕ → ℕ → ℕ → ℕ → List ℕ
+narrowedCells width m i j added =
+    cond (isCell width i j) (set m (i * width + j) (intersect (cell width m i j) added)) m

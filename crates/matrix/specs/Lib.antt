@@ -1,2 +1,3 @@
+pub mod Square
 pub mod Cells
-pub mod Laid
+pub mod Inner

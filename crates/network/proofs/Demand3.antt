@@ -1,5 +1,5 @@
 -- Demand 3 about the calls, from what their contracts say: the verdict is an acceptance exactly when there is a network within the
--- stated sets, and what is handed back is the largest. Assumes nothing.
+-- stated sets, and what is handed back is the largest.
 use mathlib.Core.Path.{_≡_, refl, sym, ap, _∙_, subst}
 use mathlib.Core.Bool.{true}
 use mathlib.Core.List.{List}
@@ -13,42 +13,28 @@ use denote.Triple.Clauses.{AtExit}
 use lib.ListN.{length, take}
 use lib.Seq.{take-all}
 use Rattle.answer.specs.Answer.{Answer, accepts}
-use Rattle.matrix.specs.Laid.{laid}
-use Rattle.matrix.proofs.LaidLaws.{length-laid, take-laid}
-use Rattle.refinement.specs.Outcome.{Outcome, accepted, refused, answered}
+use Rattle.lists.specs.Laid.{laid}
+use Rattle.lists.proofs.LaidLaws.{length-laid, take-laid}
+use Rattle.answer.specs.Ending.{Ending, accepted, refused, answered, Accepted as AcceptedEnding}
+use Rattle.matrix.proofs.CellLaws.{in-range}
 use Rattle.refinement.specs.Refine.{refined}
+use Rattle.refinement.specs.InRange.{InRange}
 use Rattle.refinement.specs.Network.{Largest}
-use Rattle.refinement.proofs.Stages.{Bytes}
-use Rattle.refinement.proofs.Ending.{Ends, Names, a-region, a-pair, a-triple}
-use Rattle.refinement.proofs.Limits.{InRange}
-use Rattle.refinement.proofs.Demand.{Accepted as AcceptedEnding, Exists, refined-ends, accepted-largest, accepted-exactly}
+use Rattle.refinement.specs.Ends.{Ends, NamesRegions, a-region, a-pair, a-triple}
+use Rattle.refinement.proofs.Demand.{refined-ends, accepted-largest, accepted-exactly}
 use Rattle.network.specs.declared.Area.{Area}
 use Rattle.network.specs.declared.Area.the-variants.{First, Second}
 use Rattle.network.specs.declared.Contradiction.the-variants.{Region, Pair, Triple}
 use Rattle.network.specs.declared.Verdict.{Verdict}
 use Rattle.network.specs.declared.Verdict.the-variants.{Accepted, Refused, OutOfRange, WrongLength}
 use Rattle.network.specs.Numbers.{answerOf}
-use Rattle.network.specs.Refined.{Names as Named, Refined, leaves}
+use Rattle.network.specs.Refined.{NamesArea, Refined, leaves}
 use Rattle.network.specs.Handed.{Handed, handed, served, chosen}
+use Rattle.network.specs.Demand.{Accepts, Demand}
 use Rattle.network.proofs.refine.Kinds as refining
 use Rattle.network.proofs.refine.Reads.{Post as Refines}
 use Rattle.network.proofs.network.Kinds as handing
 use Rattle.network.proofs.network.Reads.{Post as Hands}
-
--- the verdict is an acceptance
-pub record Accepts (verdict : Verdict) : Type 0 where
-  pub regions : ℕ
-  pub rounds : ℕ
-  pub area : Area
-  pub is : verdict ≡ Accepted regions rounds area
-
--- what demand 3 asks of the verdict about n regions with these cells, and of the part that is handed back for it
-pub record Demand (n : ℕ) (cells : List ℕ) (verdict : Verdict) (part : List ℕ) : Type 0 where
-  -- accepted exactly when there is a network within the stated sets
-  pub network-if : Accepts verdict → Exists n cells
-  pub accepted-if : Exists n cells → Accepts verdict
-  -- the network handed back is one, and contains every other
-  pub handed-largest : Accepts verdict → Largest n cells part
 
 -- ---- the verdict and the ending
 
@@ -65,27 +51,28 @@ accepts-by-answer OutOfRange count e = absurd (let z : _≡_ {A = ℕ} 1 0 = ap 
 accepts-by-answer WrongLength count e = absurd (let z : _≡_ {A = ℕ} 2 0 = ap numberOf e in omega arith)
 
 -- a refusal of the refinement has a number
-names-number : {n number i k j count : ℕ} → Names n number i k j count → number ≡ 0 → ⊥
-names-number (a-region e _) z = omega arith
-names-number (a-pair e _) z = omega arith
-names-number (a-triple e _) z = omega arith
+names-number : {n : ℕ} {numbers : Answer} → NamesRegions n numbers → numbers .number ≡ 0 → ⊥
+names-number (a-region x) z = omega (arith, x .number)
+names-number (a-pair x) z = omega (arith, x .number)
+names-number (a-triple x) z = omega (arith, x .number)
 
 -- an ending with the number of an acceptance is one
-ending-by-number : (n : ℕ) (m : List ℕ) (ending : Outcome) → Ends n m ending → answered ending .number ≡ 0 → AcceptedEnding ending
-ending-by-number n m (accepted count network) x e = record { count = count; network = network; ending = refl }
-ending-by-number n m (refused number i k j count) x e = absurd (names-number (x .names) e)
+ending-by-number : (n : ℕ) (m : List ℕ) (ending : Ending (List ℕ)) → Ends n m ending → answered ending .number ≡ 0
+    → AcceptedEnding ending
+ending-by-number n m (accepted network count) x e = record { given = network; count = count; is = refl }
+ending-by-number n m (refused numbers) x e = absurd (names-number (x .names) e)
 
 module _ {n : ℕ} {cells first second first′ second′ : List ℕ} {verdict : Verdict}
-    (range : InRange n cells (length first) (length second)) (bytes : Bytes n cells)
+    (range : InRange n cells (length first) (length second))
     (call : Refined n cells first second first′ second′ verdict) where
   pub accepted-ending : Accepts verdict → AcceptedEnding (refined n cells (length first) (length second))
   accepted-ending a =
       ending-by-number n cells (refined n cells (length first) (length second))
-      (refined-ends n cells (length first) (length second) range bytes)
+      (refined-ends n cells (length first) (length second) range)
       (ap numberOf (sym (call .answer) ∙ ap answerOf (a .is)))
 
   pub accepted-verdict : AcceptedEnding (refined n cells (length first) (length second)) → Accepts verdict
-  accepted-verdict o = accepts-by-answer verdict (o .count) (call .answer ∙ ap answered (o .ending))
+  accepted-verdict o = accepts-by-answer verdict (o .count) (call .answer ∙ ap answered (o .is))
 
 -- ---- what is handed back
 
@@ -99,8 +86,7 @@ module _ (n : ℕ) (network first second first′ second′ : List ℕ) (some : 
   serves : served n first′ second′ ≡ true
   serves =
       rw (
-        le-leb 1 n some,
-        le-leb n 64 few,
+        in-range n some few,
         le-leb (n * n) (length first′) (long first first′ x f),
         le-leb (n * n) (length second′) (long second second′ y g),
       )
@@ -116,39 +102,39 @@ module _ (n : ℕ) (network first second first′ second′ : List ℕ) (some : 
   handed-front rounds area = rw serves (either area)
 
 module _ {n : ℕ} {cells first second first′ second′ : List ℕ} {verdict : Verdict}
-    (range : InRange n cells (length first) (length second)) (bytes : Bytes n cells)
+    (range : InRange n cells (length first) (length second))
     (call : Refined n cells first second first′ second′ verdict) (a : Accepts verdict) where
   abbrev ending : AcceptedEnding (refined n cells (length first) (length second))
-  ending = accepted-ending range bytes call a
+  ending = accepted-ending range call a
 
-  pub network-largest : Largest n cells (accepted-ending range bytes call a .network)
+  pub network-largest : Largest n cells (accepted-ending range call a .given)
   network-largest =
-      accepted-largest n cells (length first) (length second) range bytes (ending .count) (ending .network) (ending .ending)
+      accepted-largest n cells (length first) (length second) range (ending .given) (ending .count) (ending .is)
 
   left-in : (area area′ : List ℕ) → area′ ≡ leaves n (refined n cells (length first) (length second)) area
-      → area′ ≡ laid (n * n) (ending .network) area
+      → area′ ≡ laid (n * n) (ending .given) area
   unfolding leaves
-  left-in area area′ e = e ∙ ap (λ (o : Outcome). leaves n o area) (ending .ending)
+  left-in area area′ e = e ∙ ap (λ (o : Ending (List ℕ)). leaves n o area) (ending .is)
 
   -- what is handed back is the accepted network
-  pub handed-network : handed first′ second′ verdict ≡ accepted-ending range bytes call a .network
+  pub handed-network : handed first′ second′ verdict ≡ accepted-ending range call a .given
   handed-network =
-      ap (handed first′ second′) (a .is ∙ ap (λ (k : ℕ). Accepted k (a .rounds) (a .area)) (subst (Named n) (a .is) (call .names) .0))
-      ∙ handed-front n (ending .network) first second first′ second′ (range .some) (range .few) (network-largest .network .size)
+      ap (handed first′ second′) (a .is ∙ ap (λ (k : ℕ). Accepted k (a .rounds) (a .area)) (subst (NamesArea n) (a .is) (call .names) .0))
+      ∙ handed-front n (ending .given) first second first′ second′ (range .square .some) (range .square .few) (network-largest .network .size)
       (range .first-long) (range .second-long) (left-in first first′ (call .inFirst)) (left-in second second′ (call .inSecond))
       (a .rounds) (a .area)
 
 -- ---- the demand
 
 pub demand-three : {n : ℕ} {cells first second first′ second′ part : List ℕ} {verdict : Verdict} {X : Type 0} {atFirst atSecond atPart : X}
-    → InRange n cells (length first) (length second) → Bytes n cells → Refined n cells first second first′ second′ verdict
+    → InRange n cells (length first) (length second) → Refined n cells first second first′ second′ verdict
     → Handed first′ second′ atFirst atSecond verdict part atPart → Demand n cells verdict part
-demand-three {n} {cells} {first} {second} range bytes call back =
-    let exactly = accepted-exactly n cells (length first) (length second) range bytes in
+demand-three {n} {cells} {first} {second} range call back =
+    let exactly = accepted-exactly n cells (length first) (length second) range in
     record {
-      network-if = λ a. exactly .0 (accepted-ending range bytes call a);
-      accepted-if = λ e. accepted-verdict range bytes call (exactly .1 e);
-      handed-largest = λ a. rw (back .bytes ∙ handed-network range bytes call a) (network-largest range bytes call a);
+      network-if = λ a. exactly .0 (accepted-ending range call a);
+      accepted-if = λ e. accepted-verdict range call (exactly .1 e);
+      handed-largest = λ a. rw (back .bytes ∙ handed-network range call a) (network-largest range call a);
     }
 
 -- the same of what the contracts of the two calls promise, where `network` is lent the areas as `refine` left them
@@ -156,6 +142,6 @@ pub calls-meet-demand-three : (κs : Lfts 3) (a : Dens κs refining.ps) (verdict
     (s : AtExit (endedOf 3 refining.ps refining.r) κs) (μs : Lfts 1) (b : Dens μs handing.ps) (part : resT handing.r μs .Denot)
     (t : AtExit (endedOf 1 handing.ps handing.r) μs) → Refines κs a verdict s → Hands μs b part t
     → now (b .0) ≡ now (s .1 .1 .0) → now (b .1 .0) ≡ now (s .1 .1 .1 .0) → b .1 .1 .0 ≡ verdict
-    → InRange (a .0) (now (a .1 .0)) (length (now (a .1 .1 .0))) (length (now (a .1 .1 .1 .0))) → Bytes (a .0) (now (a .1 .0))
+    → InRange (a .0) (now (a .1 .0)) (length (now (a .1 .1 .0))) (length (now (a .1 .1 .1 .0)))
     → Demand (a .0) (now (a .1 .0)) verdict (now part)
-calls-meet-demand-three κs a verdict s μs b part t call back e f g range bytes = demand-three range bytes call (rw (e, f, g) at back)
+calls-meet-demand-three κs a verdict s μs b part t call back e f g range = demand-three range call (rw (e, f, g) at back)

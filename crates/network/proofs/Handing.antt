@@ -1,4 +1,4 @@
--- What is handed back, from the tests that a verdict and the areas pass. Assumes nothing.
+-- What is handed back, from the tests that a verdict and the areas pass.
 use mathlib.Core.Path.{_≡_, sym, ap}
 use mathlib.Core.Bool.{Bool, true, false, cond}
 use mathlib.Core.List.{List, []}

@@ -1,4 +1,4 @@
--- The compositions through one place after the other: their intersection, and a cell that runs empty with them. Assumes nothing.
+-- The compositions through one place after the other: their intersection, and a cell that runs empty with them.
 use mathlib.Core.Path.{_≡_, sym, ap₂, _∙_}
 use mathlib.Core.Bool.{Bool, true, false}
 use mathlib.Core.List.{List}
@@ -6,7 +6,7 @@ use Prim.Native.Nat.{ℕ, suc, _+_, _≤_, _<_}
 use native.Mathlib.Numerals.{add-one}
 use native.Mathlib.Omega.{arith}
 use lib.Dec.{eqb}
-use Rattle.region.proofs.LeastLaws.{least-here, least-gone, below-next}
+use Rattle.lists.proofs.LeastLaws.{least-here, least-gone, below-next}
 use Rattle.relation.specs.Sets.{intersect}
 use Rattle.relation.specs.Composition.{compose}
 use Rattle.relation.specs.Lent.{listed, composeBy}

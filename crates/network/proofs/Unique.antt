@@ -1,13 +1,16 @@
--- No second answer meets the contract of `refine` or that of `network`. Assumes nothing.
+-- No second answer meets the contract of `refine`, of `network` or of `of_verdict`.
 use mathlib.Core.Path.{_≡_, sym, _∙_}
 use contract.Lifetimes.{Lfts}
 use denote.Ref.{now}
 use denote.Triple.Clauses.{AtExit}
 use borrow.Fn.Kinds.{Dens, resT, endedOf}
+use Rattle.answer.proofs.Unique.{told-one}
 use Rattle.network.proofs.refine.Kinds as refining
 use Rattle.network.proofs.refine.Reads.{Post as Refines}
 use Rattle.network.proofs.network.Kinds as handing
 use Rattle.network.proofs.network.Reads.{Post as Hands}
+use Rattle.network.proofs.numbers.of_verdict.Kinds as telling
+use Rattle.network.proofs.numbers.of_verdict.Reads.{Post as Tells}
 use Rattle.network.proofs.Verdicts.{one-verdict}
 
 -- the verdict, and what is left in the first and in the second area
@@ -25,3 +28,8 @@ pub network-unique : (κs : Lfts 1) (a : Dens κs handing.ps) (r r′ : resT han
     (s s′ : AtExit (endedOf 1 handing.ps handing.r) κs) → Hands κs a r s → Hands κs a r′ s′
     → (now r ≡ now r′) × (r .ptr ≡ r′ .ptr)
 network-unique κs a r r′ s s′ p q = (p .bytes ∙ sym (q .bytes), p .itself ∙ sym (q .itself))
+
+-- the five numbers
+pub of-verdict-unique : (κs : Lfts 0) (a : Dens κs telling.ps) (r r′ : resT telling.r κs .Denot)
+    (s s′ : AtExit (endedOf 0 telling.ps telling.r) κs) → Tells κs a r s → Tells κs a r′ s′ → r ≡ r′
+of-verdict-unique κs a r r′ s s′ p q = told-one r r′ _ p q

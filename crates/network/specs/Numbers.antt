@@ -1,4 +1,4 @@
--- Document 01's number, places and count of each verdict. Assumes nothing.
+-- Document 01's number, places and count of each verdict.
 use Rattle.answer.specs.Answer.{Answer, answer, accepts}
 use Rattle.network.specs.declared.Contradiction.the-variants.{Region, Pair, Triple}
 use Rattle.network.specs.declared.Verdict.{Verdict}

@@ -1,5 +1,5 @@
 // The refinement of a matrix of relation sets, and the network that it hands back.
-mod cells;
+pub mod numbers;
 mod prepare;
 mod round;
 mod rounds;
@@ -40,17 +40,15 @@ pub enum Verdict {
 pub fn refine(n: usize, cells: &[u8], first: &mut [u8], second: &mut [u8]) -> Verdict
     ensures { λ r. ⌜ Refined n (now (cells .entry)) (now (first .entry)) (now (second .entry)) (now (first .exit)) (now (second .exit)) r ⌝ }
 {
-    if n < 1 {
-        return Verdict::OutOfRange;
-    }
-    if 64 < n {
+    if !matrix::in_range(n) {
         return Verdict::OutOfRange;
     }
     let size = n * n;
     if cells.len() != size {
         return Verdict::WrongLength;
     }
-    if first.len() < size {
+    let room = first.len();
+    if room < size {
         return Verdict::WrongLength;
     }
     if second.len() < size {
@@ -70,10 +68,7 @@ pub fn network<'a>(first: &'a [u8], second: &'a [u8], verdict: Verdict) -> &'a [
             rounds: _,
             area,
         } => {
-            if regions < 1 {
-                return &first[..0];
-            }
-            if 64 < regions {
+            if !matrix::in_range(regions) {
                 return &first[..0];
             }
             let size = regions * regions;

@@ -1,24 +1,19 @@
 // What comes before the rounds: the node rule and the arc rule. Only the first area is written.
-use crate::cells::at;
+use matrix::at;
+use refinement::Preparation;
 use region::Place;
 use relation::RelationSet;
 ghost use mathlib.Core.Path.{_≡_};
 ghost use Prim.Native.Nat.{_<_};
+ghost use Rattle.matrix.specs.Square.{Square};
 ghost use Rattle.refinement.specs.Node.{nodeCell, node, emptyRegion};
-ghost use Rattle.refinement.specs.Arc.{arc, arcCell};
-ghost use Rattle.network.specs.Exact.{Exact};
-ghost use Rattle.network.specs.Steps.{Prepares};
-
-// What preparing comes to.
-pub enum Preparation {
-    Ready,
-    Region(Place),
-    Pair(Place, Place),
-}
+ghost use Rattle.refinement.specs.Arc.{arcCell};
+ghost use Rattle.refinement.specs.Prepare.{prepared};
+ghost use Rattle.network.specs.Inner.{Prepares};
 
 // Cell (i, j) by the node rule.
 fn node_cell(n: usize, cells: &[u8], i: usize, j: usize) -> RelationSet
-    requires { ⌜ (i < n) × (j < n) × Exact n (now cells) ⌝ }
+    requires { ⌜ (i < n) × (j < n) × Square n (now cells) ⌝ }
     ensures { λ r. ⌜ r .0 ≡ nodeCell n (now (cells .entry)) i j ⌝ }
 {
     let stated = at(n, cells, i, j);
@@ -30,7 +25,7 @@ fn node_cell(n: usize, cells: &[u8], i: usize, j: usize) -> RelationSet
 
 // The least region whose own cell the node rule leaves empty; n if there is none.
 fn emptied_region(n: usize, cells: &[u8]) -> usize
-    requires { ⌜ Exact n (now cells) ⌝ }
+    requires { ⌜ Square n (now cells) ⌝ }
     ensures { λ r. ⌜ r ≡ emptyRegion n (node n (now (cells .entry))) ⌝ }
 {
     let mut i: usize = 0;
@@ -45,7 +40,7 @@ fn emptied_region(n: usize, cells: &[u8]) -> usize
 
 // Cell (i, j) by the node rule and then the arc rule.
 fn arc_cell(n: usize, cells: &[u8], i: usize, j: usize) -> RelationSet
-    requires { ⌜ (i < n) × (j < n) × Exact n (now cells) ⌝ }
+    requires { ⌜ (i < n) × (j < n) × Square n (now cells) ⌝ }
     ensures { λ r. ⌜ r .0 ≡ arcCell n (node n (now (cells .entry))) i j ⌝ }
 {
     let opposite = node_cell(n, cells, j, i);
@@ -55,8 +50,8 @@ fn arc_cell(n: usize, cells: &[u8], i: usize, j: usize) -> RelationSet
 
 // The node rule and the arc rule, from the cells into an area.
 fn arc_stage(n: usize, cells: &[u8], area: &mut [u8])
-    requires { ⌜ Exact n (now cells) × Exact n (now area) ⌝ }
-    ensures { λ _. ⌜ now (area .exit) ≡ arc n (node n (now (cells .entry))) ⌝ }
+    requires { ⌜ Square n (now cells) × Square n (now area) ⌝ }
+    ensures { λ _. ⌜ now (area .exit) ≡ prepared n (now (cells .entry)) ⌝ }
 {
     let mut place: usize = 0;
     while place < area.len() {
@@ -67,7 +62,7 @@ fn arc_stage(n: usize, cells: &[u8], area: &mut [u8])
 
 // The node and arc rules; the first area then holds what the rounds start from, unless a set ran empty.
 pub(crate) fn prepare(n: usize, cells: &[u8], first: &mut [u8]) -> Preparation
-    requires { ⌜ Exact n (now cells) × Exact n (now first) ⌝ }
+    requires { ⌜ Square n (now cells) × Square n (now first) ⌝ }
     ensures { λ r. ⌜ Prepares n (now (cells .entry)) (now (first .entry)) (now (first .exit)) r ⌝ }
 {
     let i = emptied_region(n, cells);

@@ -1,27 +1,22 @@
 // One round: every cell of the new matrix is made from the old one, and what that came to.
-use crate::cells::at;
-use crate::cells::first_change;
+use matrix::at;
+use refinement::Step;
 use region::Place;
+use relation::Compositions;
 use relation::RelationSet;
 ghost use mathlib.Core.Path.{_≡_};
-ghost use Prim.Native.Nat.{_<_};
+ghost use Prim.Native.Nat.{_*_, _<_};
+ghost use lib.ListN.{getD};
 ghost use Rattle.relation.specs.Composition.{compose};
 ghost use Rattle.relation.specs.Lent.{listed};
+ghost use Rattle.matrix.specs.Square.{Square};
 ghost use Rattle.matrix.specs.Cells.{cell};
 ghost use Rattle.refinement.specs.Round.{through, round, ranOut};
-ghost use Rattle.network.specs.Exact.{Exact};
-ghost use Rattle.network.specs.Steps.{Rounds, Turns};
-
-// What a round came to: an empty cell, with the three regions; nothing changed; something did.
-pub enum Step {
-    Empty(Place, Place, Place),
-    Same,
-    Changed,
-}
+ghost use Rattle.network.specs.Inner.{Rounds, Turns};
 
 // (i, k) composed with (k, j).
-fn along(entries: &[u8; 64], n: usize, old: &[u8], i: usize, k: usize, j: usize) -> RelationSet
-    requires { ⌜ (i < n) × (k < n) × (j < n) × (now entries ≡ listed) × Exact n (now old) ⌝ }
+fn along(entries: &Compositions, n: usize, old: &[u8], i: usize, k: usize, j: usize) -> RelationSet
+    requires { ⌜ (i < n) × (k < n) × (j < n) × (now entries ≡ listed) × Square n (now old) ⌝ }
     ensures { λ r. ⌜ r .0 ≡ compose (cell n (now (old .entry)) i k) (cell n (now (old .entry)) k j) ⌝ }
 {
     let onward = at(n, old, k, j);
@@ -29,8 +24,8 @@ fn along(entries: &[u8; 64], n: usize, old: &[u8], i: usize, k: usize, j: usize)
 }
 
 // The intersection over all k of (i, k) composed with (k, j).
-fn through_all(entries: &[u8; 64], n: usize, old: &[u8], i: usize, j: usize) -> u8
-    requires { ⌜ (i < n) × (j < n) × (now entries ≡ listed) × Exact n (now old) ⌝ }
+fn through_all(entries: &Compositions, n: usize, old: &[u8], i: usize, j: usize) -> u8
+    requires { ⌜ (i < n) × (j < n) × (now entries ≡ listed) × Square n (now old) ⌝ }
     ensures { λ r. ⌜ r ≡ through n (now (old .entry)) i j n ⌝ }
 {
     let mut set = RelationSet::UNIVERSAL;
@@ -42,21 +37,29 @@ fn through_all(entries: &[u8; 64], n: usize, old: &[u8], i: usize, j: usize) -> 
     set.0
 }
 
+// The cell that a round has at a place.
+fn round_cell(entries: &Compositions, n: usize, old: &[u8], place: usize) -> u8
+    requires { ⌜ (place < n * n) × (now entries ≡ listed) × Square n (now old) ⌝ }
+    ensures { λ r. ⌜ r ≡ getD (round n (now (old .entry))) place 0 ⌝ }
+{
+    through_all(entries, n, old, place / n, place % n)
+}
+
 // A round: every cell of `new` is made from `old`.
-fn round(entries: &[u8; 64], n: usize, old: &[u8], new: &mut [u8])
-    requires { ⌜ (now entries ≡ listed) × Exact n (now old) × Exact n (now new) ⌝ }
+fn round(entries: &Compositions, n: usize, old: &[u8], new: &mut [u8])
+    requires { ⌜ (now entries ≡ listed) × Square n (now old) × Square n (now new) ⌝ }
     ensures { λ _. ⌜ now (new .exit) ≡ round n (now (old .entry)) ⌝ }
 {
     let mut place: usize = 0;
     while place < new.len() {
-        new[place] = through_all(entries, n, old, place / n, place % n);
+        new[place] = round_cell(entries, n, old, place);
         place += 1;
     }
 }
 
 // The least k at which (i, j), intersected with the compositions through 0..k, has run empty; n if there is none.
-fn ran_out(entries: &[u8; 64], n: usize, old: &[u8], i: usize, j: usize) -> usize
-    requires { ⌜ (i < n) × (j < n) × (now entries ≡ listed) × Exact n (now old) ⌝ }
+fn ran_out(entries: &Compositions, n: usize, old: &[u8], i: usize, j: usize) -> usize
+    requires { ⌜ (i < n) × (j < n) × (now entries ≡ listed) × Square n (now old) ⌝ }
     ensures { λ r. ⌜ r ≡ ranOut n (now (old .entry)) i j ⌝ }
 {
     let mut set = at(n, old, i, j);
@@ -72,8 +75,8 @@ fn ran_out(entries: &[u8; 64], n: usize, old: &[u8], i: usize, j: usize) -> usiz
 }
 
 // A round from `old` into `new`, and what it came to.
-fn one_round(entries: &[u8; 64], n: usize, old: &[u8], new: &mut [u8]) -> Step
-    requires { ⌜ (now entries ≡ listed) × Exact n (now old) × Exact n (now new) ⌝ }
+fn one_round(entries: &Compositions, n: usize, old: &[u8], new: &mut [u8]) -> Step
+    requires { ⌜ (now entries ≡ listed) × Square n (now old) × Square n (now new) ⌝ }
     ensures { λ r. ⌜ Rounds n (now (old .entry)) (now (new .exit)) r ⌝ }
 {
     round(entries, n, old, new);
@@ -84,7 +87,7 @@ fn one_round(entries: &[u8; 64], n: usize, old: &[u8], new: &mut [u8]) -> Step
         let k = ran_out(entries, n, old, i, j);
         return Step::Empty(Place(i), Place(k), Place(j));
     }
-    let change = first_change(n, new, old);
+    let change = matrix::first_change(new, old);
     if change < new.len() {
         return Step::Changed;
     }
@@ -93,13 +96,13 @@ fn one_round(entries: &[u8; 64], n: usize, old: &[u8], new: &mut [u8]) -> Step
 
 // A round from the area that holds the matrix into the other one.
 pub(crate) fn turn(
-    entries: &[u8; 64],
+    entries: &Compositions,
     n: usize,
     swapped: bool,
     first: &mut [u8],
     second: &mut [u8],
 ) -> Step
-    requires { ⌜ (now entries ≡ listed) × Exact n (now first) × Exact n (now second) ⌝ }
+    requires { ⌜ (now entries ≡ listed) × Square n (now first) × Square n (now second) ⌝ }
     ensures { λ r. ⌜ Turns n swapped (now (first .entry)) (now (second .entry)) (now (first .exit)) (now (second .exit)) r ⌝ }
 {
     if swapped {

@@ -2,18 +2,19 @@
 use crate::Area;
 use crate::Contradiction;
 use crate::Verdict;
-use crate::prepare::Preparation;
 use crate::prepare::prepare;
-use crate::round::Step;
 use crate::round::turn;
+use refinement::Preparation;
+use refinement::Step;
+use relation::Compositions;
 use relation::compositions;
 ghost use mathlib.Core.Path.{_≡_};
 ghost use Rattle.relation.specs.Lent.{listed};
+ghost use Rattle.matrix.specs.Square.{Square};
 ghost use Rattle.refinement.specs.Refine.{refine, allRounds};
-ghost use Rattle.refinement.proofs.Stages.{Plain};
-ghost use Rattle.network.specs.Exact.{Exact};
+ghost use Rattle.refinement.specs.Plain.{Plain};
 ghost use Rattle.network.specs.Refined.{written};
-ghost use Rattle.network.specs.Steps.{Clears, Ends};
+ghost use Rattle.network.specs.Inner.{Clears, Meets};
 
 // A refusal: both areas are cleared.
 fn refused(
@@ -40,9 +41,9 @@ fn written(count: usize) -> Area
 }
 
 // The rounds, from the matrix in the first area on.
-fn all_rounds(entries: &[u8; 64], n: usize, first: &mut [u8], second: &mut [u8]) -> Verdict
-    requires { ⌜ (now entries ≡ listed) × Exact n (now first) × Exact n (now second) × Plain n (now first) ⌝ }
-    ensures { λ r. ⌜ Ends n (allRounds n (now (first .entry))) (now (first .exit)) (now (second .exit)) r ⌝ }
+fn all_rounds(entries: &Compositions, n: usize, first: &mut [u8], second: &mut [u8]) -> Verdict
+    requires { ⌜ (now entries ≡ listed) × Square n (now first) × Square n (now second) × Plain n (now first) ⌝ }
+    ensures { λ r. ⌜ Meets n (allRounds n (now (first .entry))) (now (first .exit)) (now (second .exit)) r ⌝ }
 {
     let mut count: usize = 0;
     loop {
@@ -67,8 +68,8 @@ fn all_rounds(entries: &[u8; 64], n: usize, first: &mut [u8], second: &mut [u8])
 
 // The whole refinement, in areas of exactly n² bytes.
 pub(crate) fn run(n: usize, cells: &[u8], first: &mut [u8], second: &mut [u8]) -> Verdict
-    requires { ⌜ Exact n (now cells) × Exact n (now first) × Exact n (now second) ⌝ }
-    ensures { λ r. ⌜ Ends n (refine n (now (cells .entry))) (now (first .exit)) (now (second .exit)) r ⌝ }
+    requires { ⌜ Square n (now cells) × Square n (now first) × Square n (now second) ⌝ }
+    ensures { λ r. ⌜ Meets n (refine n (now (cells .entry))) (now (first .exit)) (now (second .exit)) r ⌝ }
 {
     let preparation = prepare(n, cells, first);
     match preparation {

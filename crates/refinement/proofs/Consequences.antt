@@ -1,5 +1,5 @@
 -- What follows from demand 3: an accepted network is below the stated sets and stays as it is, weaker statements give no
--- smaller network, and where nothing is stated nothing is lost. Assumes nothing.
+-- smaller network, and where nothing is stated nothing is lost.
 use mathlib.Core.Path.{_≡_, refl, sym, ap, _∙_, subst}
 use mathlib.Core.Bool.{Bool, cond}
 use mathlib.Core.List.{List}
@@ -7,26 +7,32 @@ use Prim.Native.Nat.{ℕ, _+_, _*_, _≤_, _<_}
 use native.Mathlib.Omega.{arith}
 use borrow.Author.Tests.{eq-eqb, ne-eqb}
 use lib.Dec.{eqb}
-use lib.ListN.{length, replicate, length-replicate, getD-replicate}
-use Rattle.region.proofs.Splits.{split-eq}
+use lib.ListN.{length, length-replicate, getD-replicate}
+use Rattle.answer.specs.Ending.{accepted, Accepted}
+use Rattle.lists.proofs.Splits.{split-eq}
 use Rattle.relation.specs.Relations.{equal}
 use Rattle.relation.specs.Sets.{Within, has, only, empty, universal, intersect, over, unionOf}
 use Rattle.relation.specs.Converse.{converse}
 use Rattle.relation.specs.Composition.{rows, table, compose}
 use Rattle.relation.proofs.Within.{within-antisym}
 use Rattle.relation.proofs.ConverseLaws.{converse-equal, converse-universal}
-use Rattle.matrix.specs.Cells.{cell, grid, firstEmpty}
-use Rattle.matrix.proofs.CellLaws.{length-grid, place-lt, cell-grid, ext-cell, none-empty, none-changed}
-use Rattle.refinement.specs.Outcome.{accepted}
+use Rattle.matrix.specs.Cells.{cell}
+use Rattle.matrix.proofs.CellLaws.{length-grid, place-lt, cell-grid, ext-cell, none-empty}
 use Rattle.refinement.specs.Node.{node, emptyRegion}
 use Rattle.refinement.specs.Arc.{arc}
+use Rattle.refinement.specs.declared.Step.the-variants.{Same}
 use Rattle.refinement.specs.Round.{round}
-use Rattle.refinement.specs.Refine.{mostRounds, refine, refined}
+use Rattle.refinement.specs.Step.{stepOf}
+use Rattle.refinement.specs.Prepare.{prepared, preparation}
+use Rattle.refinement.specs.Refine.{rounds, refine, refined}
+use Rattle.refinement.specs.InRange.{InRange}
 use Rattle.refinement.specs.Network.{Below, Network}
-use Rattle.refinement.proofs.Stages.{Bytes, below-refl, below-trans, network-plain, network-within, network-node, network-arc, network-round, length-node, length-arc, length-round, node-cell, node-below, arc-below, round-below, none-region-empty}
-use Rattle.refinement.proofs.Loop.{refine-rounds, round-rests}
-use Rattle.refinement.proofs.Limits.{InRange, refined-in-range}
-use Rattle.refinement.proofs.Demand.{Accepted, accepted-largest, accepted-if}
+use Rattle.refinement.specs.Unstated.{nothingStated, unknownCell, unknown}
+use Rattle.refinement.proofs.Stages.{below-refl, below-trans, network-plain, network-within, network-node, network-arc, network-round, length-node, length-arc, length-round, node-cell, node-below, arc-below, round-below, none-region-empty}
+use Rattle.refinement.proofs.Preparing.{refine-rounds}
+use Rattle.refinement.proofs.Stepping.{rests-step}
+use Rattle.refinement.proofs.Limits.{refined-in-range}
+use Rattle.refinement.proofs.Demand.{accepted-largest, accepted-if}
 
 -- ---- no stage changes a network
 
@@ -46,61 +52,52 @@ module _ {n : ℕ} {m w : List ℕ} (N : Network n m w) where
       same-by-below (round n w) (length-round n w) (round-below n w (network-plain N)) (network-round w N (below-refl n w))
 
   -- refining a network gives it back after no round that changes anything
-  pub refine-network : refine n w ≡ accepted 0 w
+  pub refine-network : refine n w ≡ accepted w 0
+  unfolding rounds
   refine-network =
-      let filled : n * n ≤ firstEmpty n w = none-empty n w (N .filled) in
       let regions : n ≤ emptyRegion n w = none-region-empty n w (λ i h. N .filled i i h h) in
-      let prepared : arc n (node n w) ≡ w = ap (arc n) network-node-same ∙ network-arc-same in
-      refine-rounds n w (rw network-node-same regions) (rw prepared filled)
-      ∙ rw prepared (round-rests n (mostRounds n) 0 w (N .size) (rw network-round-same filled)
-      (none-changed n (round n w) w (λ i j hi hj. ap (λ (a : List ℕ). cell n a i j) network-round-same)) .done)
+      let made : prepared n w ≡ w = ap (arc n) network-node-same ∙ network-arc-same in
+      let rests : stepOf n w ≡ Same =
+      rests-step
+      (record {
+        full = record { filled = rw network-round-same (N .filled) };
+        same = λ i j hi hj. ap (λ (a : List ℕ). cell n a i j) network-round-same;
+      }) in
+      refine-rounds n w (rw network-node-same regions) (rw made (none-empty n w (N .filled))) ∙ rw (made, rests)
 
 -- ---- accepted networks
 
-module _ (n : ℕ) (m : List ℕ) (first second : ℕ) (range : InRange n m first second) (bytes : Bytes n m)
-    (count : ℕ) (w : List ℕ) (ends : refined n m first second ≡ accepted count w) where
+module _ (n : ℕ) (m : List ℕ) (first second : ℕ) (range : InRange n m first second)
+    (w : List ℕ) (count : ℕ) (ends : refined n m first second ≡ accepted w count) where
   -- the accepted network is below the stated sets
   pub accepted-below : Below n w m
-  accepted-below = accepted-largest n m first second range bytes count w ends .network .within
+  accepted-below = accepted-largest n m first second range w count ends .network .within
 
   -- refining it again changes nothing and counts no round
-  pub refined-again : (third fourth : ℕ) → n * n ≤ third → n * n ≤ fourth → refined n w third fourth ≡ accepted 0 w
+  pub refined-again : (third fourth : ℕ) → n * n ≤ third → n * n ≤ fourth → refined n w third fourth ≡ accepted w 0
   refined-again third fourth h k =
-      let N : Network n m w = accepted-largest n m first second range bytes count w ends .network in
+      let N : Network n m w = accepted-largest n m first second range w count ends .network in
       refined-in-range (record {
-        some = range .some;
-        few = range .few;
-        cells = N .size;
+        square = record { some = range .square .some; few = range .square .few; size = N .size };
         first-long = h;
         second-long = k;
       })
       ∙ refine-network N
 
   -- weaker statements are accepted too, and their network contains this one
-  pub weaker-accepted : (wider : List ℕ) (third fourth : ℕ) → InRange n wider third fourth → Bytes n wider → Below n m wider
+  pub weaker-accepted : (wider : List ℕ) (third fourth : ℕ) → InRange n wider third fourth → Below n m wider
       → Accepted (refined n wider third fourth)
-  weaker-accepted wider third fourth r b B =
-      let N : Network n m w = accepted-largest n m first second range bytes count w ends .network in
-      accepted-if n wider third fourth r b w (network-within wider N (below-trans n (N .within) B))
+  weaker-accepted wider third fourth r B =
+      let N : Network n m w = accepted-largest n m first second range w count ends .network in
+      accepted-if n wider third fourth r w (network-within wider N (below-trans n (N .within) B))
 
-  pub weaker-contains : (wider : List ℕ) (third fourth : ℕ) → InRange n wider third fourth → Bytes n wider → Below n m wider
-      → (rounds : ℕ) (v : List ℕ) → refined n wider third fourth ≡ accepted rounds v → Below n w v
-  weaker-contains wider third fourth r b B rounds v e =
-      let N : Network n m w = accepted-largest n m first second range bytes count w ends .network in
-      accepted-largest n wider third fourth r b rounds v e .contains w (network-within wider N (below-trans n (N .within) B))
+  pub weaker-contains : (wider : List ℕ) (third fourth : ℕ) → InRange n wider third fourth → Below n m wider
+      → (v : List ℕ) (count′ : ℕ) → refined n wider third fourth ≡ accepted v count′ → Below n w v
+  weaker-contains wider third fourth r B v count′ e =
+      let N : Network n m w = accepted-largest n m first second range w count ends .network in
+      accepted-largest n wider third fourth r v count′ e .contains w (network-within wider N (below-trans n (N .within) B))
 
 -- ---- nothing stated
-
--- every cell universal
-abbrev pub nothingStated : ℕ → List ℕ
-nothingStated n = replicate (n * n) universal
-
--- "equal" on the diagonal and the universal set elsewhere
-abbrev pub unknownCell : ℕ → ℕ → ℕ
-unknownCell i j = cond (eqb i j) (only equal) universal
-
-unfoldable pub unknown : ℕ → List ℕ
-unknown n = grid n unknownCell
 
 compose-universal : compose universal universal ≡ universal
 unfolding compose over unionOf has table rows
@@ -174,17 +171,15 @@ module _ (n : ℕ) where
       ∙ sym (unknown-cell i j hi hj))
 
   refine-by-node : (a b : List ℕ) → node n a ≡ node n b → refine n a ≡ refine n b
-  unfolding refine
+  unfolding refine preparation
   refine-by-node a b e = rw e
 
   -- where nothing is stated, all is accepted at once and nothing is lost
   pub nothing-stated : (first second : ℕ) → 1 ≤ n → n ≤ 64 → n * n ≤ first → n * n ≤ second
-      → refined n (nothingStated n) first second ≡ accepted 0 (unknown n)
+      → refined n (nothingStated n) first second ≡ accepted (unknown n) 0
   nothing-stated first second some few h k =
       refined-in-range (record {
-        some = some;
-        few = few;
-        cells = length-replicate {A = ℕ} (n * n) universal;
+        square = record { some = some; few = few; size = length-replicate {A = ℕ} (n * n) universal };
         first-long = h;
         second-long = k;
       })

@@ -1,5 +1,5 @@
 -- Where a round empties a cell, the three regions that are named differ: the diagonal keeps equal, and a composition through
--- either end gives the cell back. Assumes nothing.
+-- either end gives the cell back.
 use mathlib.Core.Path.{_≡_, sym, ap, _∙_, subst}
 use mathlib.Core.Bool.{true≢false}
 use mathlib.Core.List.{List}
@@ -9,8 +9,8 @@ use native.Mathlib.Omega.{arith}
 use borrow.Author.Tests.{eqb-true, eq-eqb}
 use lib.Bits.{and-zero-r}
 use lib.Dec.{eqb, lit<}
-use Rattle.region.proofs.Splits.{split-lt}
-use Rattle.region.proofs.LeastLaws.{Least, least-is}
+use Rattle.lists.proofs.Splits.{split-lt}
+use Rattle.lists.proofs.LeastLaws.{Least, least-is}
 use Rattle.relation.specs.Relations.{equal}
 use Rattle.relation.specs.Sets.{Within, only, empty, intersect}
 use Rattle.relation.specs.Composition.{compose}
@@ -18,16 +18,9 @@ use Rattle.relation.proofs.Within.{intersect-assoc, within-left, within-empty, 
 use Rattle.relation.proofs.CompositionLaws.{equal-compose, compose-equal, compose-loop}
 use Rattle.matrix.specs.Cells.{cell}
 use Rattle.refinement.specs.Round.{through, ranOut}
-use Rattle.refinement.proofs.Stages.{Plain, through-largest}
-
--- three regions that differ
-pub record Three (n i k j : ℕ) : Type 0 where
-  pub first : i < n
-  pub middle : k < n
-  pub last : j < n
-  pub ends-differ : i ≡ j → ⊥
-  pub first-differs : k ≡ i → ⊥
-  pub last-differs : k ≡ j → ⊥
+use Rattle.refinement.specs.Plain.{Plain}
+use Rattle.refinement.specs.Ends.{Three}
+use Rattle.refinement.proofs.Stages.{through-largest}
 
 -- the diagonal keeps equal
 pub through-self : (n : ℕ) (m : List ℕ) → Plain n m → (i : ℕ) → i < n → through n m i i n ≡ empty → ⊥

@@ -1,64 +1,34 @@
 -- The order of the regions does not matter: renumbering them commutes with every stage, and refining ends in the same way,
--- after the same rounds, with the network renumbered. Assumes nothing.
+-- after the same rounds, with the network renumbered.
 use mathlib.Core.Path.{_≡_, refl, sym, ap, ap₂, _∙_, subst}
-use mathlib.Core.Bool.{Bool, true, false, true≢false}
 use mathlib.Core.List.{List}
 use Prim.Native.Nat.{ℕ, zero, suc, _*_, _≤_, _<_}
-use native.Mathlib.Omega.{arith}
-use borrow.Author.Tests.{lt-ltb, le-ltb, le-leb, lt-leb}
-use lib.Dec.{ltb, leb}
 use lib.ListN.{length}
-use Rattle.region.proofs.Splits.{split-lt, split-eq}
+use Rattle.answer.specs.Answer.{Answer}
+use Rattle.answer.specs.Ending.{Ending, accepted, refused}
+use Rattle.lists.proofs.Splits.{split-eq}
 use Rattle.relation.specs.Relations.{equal}
 use Rattle.relation.specs.Sets.{only, intersect}
 use Rattle.relation.specs.Converse.{converse}
 use Rattle.relation.specs.Composition.{compose}
 use Rattle.relation.proofs.Within.{within-antisym, within-of-eq, within-trans}
-use Rattle.matrix.specs.Cells.{cell, grid, firstEmpty, firstChange}
-use Rattle.matrix.proofs.CellLaws.{length-grid, cell-grid, ext-cell, no-empty, none-empty, no-change, none-changed}
-use Rattle.refinement.specs.Outcome.{Outcome, accepted, refused, stop}
+use Rattle.matrix.specs.Cells.{cell}
+use Rattle.matrix.proofs.CellLaws.{Change, length-grid, cell-grid, ext-cell, no-empty, none-empty}
+use Rattle.refinement.specs.declared.Preparation.{Preparation}
+use Rattle.refinement.specs.declared.Preparation.the-variants.{Ready}
+use Rattle.refinement.specs.declared.Step.{Step}
+use Rattle.refinement.specs.declared.Step.the-variants.{Same, Changed}
 use Rattle.refinement.specs.Node.{node, emptyRegion}
 use Rattle.refinement.specs.Arc.{arc}
+use Rattle.refinement.specs.Prepare.{prepared, preparation}
 use Rattle.refinement.specs.Round.{through, round}
-use Rattle.refinement.specs.Refine.{mostRounds, rounds, allRounds, refine}
+use Rattle.refinement.specs.Step.{stepOf}
+use Rattle.refinement.specs.Refine.{mostRounds, stepped, rounds, allRounds, started, refine}
+use Rattle.refinement.specs.Plain.{Filled}
+use Rattle.refinement.specs.Renumbering.{Renumbering, renumbered, back, Alike}
 use Rattle.refinement.proofs.Stages.{length-node, length-arc, length-round, node-self, node-other, arc-cell, round-cell, through-within, through-largest, through-universal, no-region-empty, none-region-empty}
-
--- a permutation of the places below n, with its inverse
-pub record Renumbering (n : ℕ) : Type 0 where
-  pub to : ℕ → ℕ
-  pub from : ℕ → ℕ
-  pub to-below : (i : ℕ) → i < n → to i < n
-  pub from-below : (i : ℕ) → i < n → from i < n
-  pub to-from : (i : ℕ) → i < n → to (from i) ≡ i
-  pub from-to : (i : ℕ) → i < n → from (to i) ≡ i
-
--- region i of the renumbered matrix is region `to i` of the matrix
-unfoldable pub renumbered : (n : ℕ) → Renumbering n → List ℕ → List ℕ
-renumbered n π m = grid n (λ i j. cell n m (π .to i) (π .to j))
-
--- renumbering back
-abbrev pub back : {n : ℕ} → Renumbering n → Renumbering n
-back π = record {
-  to = π .from;
-  from = π .to;
-  to-below = π .from-below;
-  from-below = π .to-below;
-  to-from = π .from-to;
-  from-to = π .to-from;
-}
-
--- two searches that end before their limit alike give the same test
-same-ltb : (a b limit : ℕ) → (limit ≤ a → limit ≤ b) → (limit ≤ b → limit ≤ a) → ltb a limit ≡ ltb b limit
-same-ltb a b limit f g =
-    split-lt a limit
-    (λ l. split-lt b limit (λ u. lt-ltb a limit l ∙ sym (lt-ltb b limit u)) (λ u. absurd (let z = g u in omega arith)))
-    (λ l. le-ltb a limit l ∙ sym (le-ltb b limit (f l)))
-
-same-leb : (limit a b : ℕ) → (limit ≤ a → limit ≤ b) → (limit ≤ b → limit ≤ a) → leb limit a ≡ leb limit b
-same-leb limit a b f g =
-    split-lt a limit
-    (λ l. split-lt b limit (λ u. lt-leb limit a l ∙ sym (lt-leb limit b u)) (λ u. absurd (let z = g u in omega arith)))
-    (λ l. le-leb limit a l ∙ sym (le-leb limit b (f l)))
+use Rattle.refinement.proofs.Preparing.{RegionEmpty, PairEmpty, NoneEmpty, AtSomeRegion, AtSomePair, some-region, some-pair, preparation-ready, by-preparation}
+use Rattle.refinement.proofs.Stepping.{RunsEmpty, Rests, Moves, EmptyStep, runs-empty-step, rests-step, moves-step, by-step}
 
 module _ (n : ℕ) (π : Renumbering n) where
   pub length-renumbered : (m : List ℕ) → length (renumbered n π m) ≡ n * n
@@ -131,7 +101,7 @@ module _ (n : ℕ) (π : Renumbering n) where
       round-cell n r i j hi hj ∙ renumber-through m i j hi hj
       ∙ sym (round-cell n m (π .to i) (π .to j) (π .to-below i hi) (π .to-below j hj)))
 
-  -- ---- the searches
+  -- ---- the other way
 
   -- every cell of m is one of the renumbered matrix
   cell-back : (m : List ℕ) (i j : ℕ) → i < n → j < n → cell n (renumbered n π m) (π .from i) (π .from j) ≡ cell n m i j
@@ -139,109 +109,132 @@ module _ (n : ℕ) (π : Renumbering n) where
       renumbered-cell m (π .from i) (π .from j) (π .from-below i hi) (π .from-below j hj)
       ∙ ap₂ (cell n m) (π .to-from i hi) (π .to-from j hj)
 
-  renumber-region : (m : List ℕ) → ltb (emptyRegion n m) n ≡ ltb (emptyRegion n (renumbered n π m)) n
-  renumber-region m =
-      let r : List ℕ = renumbered n π m in
-      same-ltb (emptyRegion n m) (emptyRegion n r) n
-      (λ l. none-region-empty n r
-      (λ i h e. no-region-empty n m l (π .to i) (π .to-below i h) (sym (renumbered-cell m i i h h) ∙ e)))
-      (λ l. none-region-empty n m
-      (λ i h e. no-region-empty n r l (π .from i) (π .from-below i h) (cell-back m i i h h ∙ e)))
+  renumber-filled : (m : List ℕ) → Filled n m → Filled n (renumbered n π m)
+  renumber-filled m F = record {
+    filled = λ i j hi hj e.
+        F .filled (π .to i) (π .to j) (π .to-below i hi) (π .to-below j hj) (sym (renumbered-cell m i j hi hj) ∙ e);
+  }
 
-  renumber-empty : (m : List ℕ) → ltb (firstEmpty n m) (n * n) ≡ ltb (firstEmpty n (renumbered n π m)) (n * n)
-  renumber-empty m =
-      let r : List ℕ = renumbered n π m in
-      same-ltb (firstEmpty n m) (firstEmpty n r) (n * n)
-      (λ l. none-empty n r
-      (λ i j hi hj e.
-      no-empty n m l (π .to i) (π .to j) (π .to-below i hi) (π .to-below j hj) (sym (renumbered-cell m i j hi hj) ∙ e)))
-      (λ l. none-empty n m
-      (λ i j hi hj e.
-      no-empty n r l (π .from i) (π .from j) (π .from-below i hi) (π .from-below j hj) (cell-back m i j hi hj ∙ e)))
+  renumber-change : (new old : List ℕ) → Change n new old → Change n (renumbered n π new) (renumbered n π old)
+  renumber-change new old c = record {
+    first = π .from (c .first);
+    second = π .from (c .second);
+    first-lt = π .from-below (c .first) (c .first-lt);
+    second-lt = π .from-below (c .second) (c .second-lt);
+    differs = λ e.
+        c .differs
+        (sym (cell-back new (c .first) (c .second) (c .first-lt) (c .second-lt)) ∙ e
+        ∙ cell-back old (c .first) (c .second) (c .first-lt) (c .second-lt));
+  }
 
-  renumber-change : (new old : List ℕ)
-      → leb (n * n) (firstChange n new old) ≡ leb (n * n) (firstChange n (renumbered n π new) (renumbered n π old))
-  renumber-change new old =
-      let r : List ℕ = renumbered n π new in
-      let s : List ℕ = renumbered n π old in
-      same-leb (n * n) (firstChange n new old) (firstChange n r s)
-      (λ l. none-changed n r s
-      (λ i j hi hj.
-      renumbered-cell new i j hi hj ∙ no-change n new old l (π .to i) (π .to j) (π .to-below i hi) (π .to-below j hj)
-      ∙ sym (renumbered-cell old i j hi hj)))
-      (λ l. none-changed n new old
-      (λ i j hi hj.
-      sym (cell-back new i j hi hj) ∙ no-change n r s l (π .from i) (π .from j) (π .from-below i hi) (π .from-below j hj)
-      ∙ cell-back old i j hi hj))
+  -- ---- what preparing and a step find
+
+  renumber-prepared : (m : List ℕ) → prepared n (renumbered n π m) ≡ renumbered n π (prepared n m)
+  renumber-prepared m = ap (arc n) (renumber-node m) ∙ renumber-arc (node n m)
+
+  renumber-regions : (m : List ℕ) → n ≤ emptyRegion n (node n m) → n ≤ emptyRegion n (node n (renumbered n π m))
+  renumber-regions m l =
+      rw (renumber-node m)
+      (none-region-empty n (renumbered n π (node n m))
+      (λ i h e. no-region-empty n (node n m) l (π .to i) (π .to-below i h) (sym (renumbered-cell (node n m) i i h h) ∙ e)))
+
+  region-renumbered : (m : List ℕ) (i : ℕ) → RegionEmpty n m i → AtSomeRegion n (renumbered n π m)
+  region-renumbered m i e =
+      some-region (renumbered n π m) (π .from-below i (e .inside))
+      (rw (renumber-node m) (cell-back (node n m) i i (e .inside) (e .inside) ∙ e .empties))
+
+  pair-renumbered : (m : List ℕ) (i j : ℕ) → PairEmpty n m i j → AtSomePair n (renumbered n π m)
+  pair-renumbered m i j e =
+      some-pair (renumbered n π m) (renumber-regions m (e .regions)) (π .from-below i (e .first)) (π .from-below j (e .second))
+      (rw (renumber-prepared m) (cell-back (prepared n m) i j (e .first) (e .second) ∙ e .empties))
+
+  ready-renumbered : (m : List ℕ) → NoneEmpty n m → preparation n (renumbered n π m) ≡ Ready
+  ready-renumbered m e =
+      preparation-ready n (renumbered n π m) (renumber-regions m (e .regions))
+      (rw (renumber-prepared m)
+      (none-empty n (renumbered n π (prepared n m))
+      (renumber-filled (prepared n m) (record { filled = no-empty n (prepared n m) (e .cells) }) .filled)))
+
+  empty-renumbered : (old : List ℕ) (i j : ℕ) → RunsEmpty n old i j → EmptyStep n (renumbered n π old)
+  empty-renumbered old i j e =
+      let first : π .from i < n = π .from-below i (e .first) in
+      let last : π .from j < n = π .from-below j (e .last) in
+      runs-empty-step
+      (record {
+        first = first;
+        last = last;
+        empties = renumber-through old (π .from i) (π .from j) first last
+            ∙ ap₂ (λ (x y : ℕ). through n old x y n) (π .to-from i (e .first)) (π .to-from j (e .last))
+            ∙ e .empties;
+      })
+
+  full-renumbered : (old : List ℕ) → Filled n (round n old) → Filled n (round n (renumbered n π old))
+  full-renumbered old F = rw (renumber-round old) (renumber-filled (round n old) F)
+
+  rests-renumbered : (old : List ℕ) → Rests n old → stepOf n (renumbered n π old) ≡ Same
+  rests-renumbered old r =
+      rests-step
+      (record {
+        full = full-renumbered old (r .full);
+        same = λ i j hi hj.
+            rw (renumber-round old)
+            (renumbered-cell (round n old) i j hi hj ∙ r .same (π .to i) (π .to j) (π .to-below i hi) (π .to-below j hj)
+            ∙ sym (renumbered-cell old i j hi hj));
+      })
+
+  moves-renumbered : (old : List ℕ) → Moves n old → stepOf n (renumbered n π old) ≡ Changed
+  moves-renumbered old m =
+      moves-step
+      (record { full = full-renumbered old (m .full); change = rw (renumber-round old) (renumber-change (round n old) old (m .change)) })
 
   -- ---- the endings
 
-  -- the same ending but for the numbers of the regions: the same count, and the network renumbered or the same refusal number
-  abbrev pub Alike : Outcome → Outcome → Type 0
-  Alike (accepted count w) (accepted rounds v) = (count ≡ rounds) × (v ≡ renumbered n π w)
-  Alike (accepted count w) (refused x a b c rounds) = ⊥
-  Alike (refused number i k j count) (accepted rounds v) = ⊥
-  Alike (refused number i k j count) (refused x a b c rounds) = (number ≡ x) × (count ≡ rounds)
-
-  alike-stop : (b c : Bool) (o p : Outcome) (f g : Unit {0} → Outcome) → b ≡ c → Alike o p → Alike (f tt) (g tt)
-      → Alike (stop b o f) (stop c p g)
-  alike-stop true true o p f g e x y = x
-  alike-stop false false o p f g e x y = y
-  alike-stop true false o p f g e x y = absurd (true≢false e)
-  alike-stop false true o p f g e x y = absurd (true≢false (sym e))
-
-  rounds-alike : (more count : ℕ) (old : List ℕ) → Alike (rounds more n count old) (rounds more n count (renumbered n π old))
+  rounds-alike : (more count : ℕ) (old : List ℕ)
+      → Alike n π (rounds more n count old) (rounds more n count (renumbered n π old))
   unfolding rounds
   rounds-alike zero count old = (refl, refl)
   rounds-alike (suc more) count old =
-      let r : List ℕ = renumbered n π old in
-      let same : renumbered n π (round n old) ≡ round n r = sym (renumber-round old) in
-      alike-stop (ltb (firstEmpty n (round n old)) (n * n)) (ltb (firstEmpty n (round n r)) (n * n)) _ _ _ _
-      (renumber-empty (round n old) ∙ ap (λ (a : List ℕ). ltb (firstEmpty n a) (n * n)) same)
-      (refl, refl)
-      (alike-stop (leb (n * n) (firstChange n (round n old) old)) (leb (n * n) (firstChange n (round n r) r)) _ _ _ _
-      (renumber-change (round n old) old ∙ ap (λ (a : List ℕ). leb (n * n) (firstChange n a r)) same)
-      (refl, refl)
-      (subst (λ (a : List ℕ). Alike (rounds more n (suc count) (round n old)) (rounds more n (suc count) a)) same
-      (rounds-alike more (suc count) (round n old))))
+      by-step
+      (λ (s : Step).
+      Alike n π (stepped s count old (λ _. rounds more n (suc count) (round n old))) (rounds (suc more) n count (renumbered n π old)))
+      n old
+      (λ i j e. rw (empty-renumbered old i j e .is) (refl, refl))
+      (λ r. rw (rests-renumbered old r) (refl, refl))
+      (λ m. rw (moves-renumbered old m, renumber-round old) (rounds-alike more (suc count) (round n old)))
 
-  pub refine-alike : (m : List ℕ) → Alike (refine n m) (refine n (renumbered n π m))
+  pub refine-alike : (m : List ℕ) → Alike n π (refine n m) (refine n (renumbered n π m))
   unfolding refine
   refine-alike m =
-      let r : List ℕ = renumbered n π m in
-      let noded : renumbered n π (node n m) ≡ node n r = sym (renumber-node m) in
-      let arced : renumbered n π (arc n (node n m)) ≡ arc n (node n r) =
-      sym (renumber-arc (node n m)) ∙ ap (arc n) noded in
-      alike-stop (ltb (emptyRegion n (node n m)) n) (ltb (emptyRegion n (node n r)) n) _ _ _ _
-      (renumber-region (node n m) ∙ ap (λ (a : List ℕ). ltb (emptyRegion n a) n) noded)
-      (refl, refl)
-      (alike-stop (ltb (firstEmpty n (arc n (node n m))) (n * n)) (ltb (firstEmpty n (arc n (node n r))) (n * n)) _ _ _ _
-      (renumber-empty (arc n (node n m)) ∙ ap (λ (a : List ℕ). ltb (firstEmpty n a) (n * n)) arced)
-      (refl, refl)
-      (subst (λ (a : List ℕ). Alike (allRounds n (arc n (node n m))) (allRounds n a)) arced
-      (rounds-alike (suc (mostRounds n)) 0 (arc n (node n m)))))
+      by-preparation
+      (λ (answer : Preparation). Alike n π (started answer (λ _. allRounds n (prepared n m))) (refine n (renumbered n π m))) n m
+      (λ i e. rw (region-renumbered m i e .is) (refl, refl))
+      (λ i j e. rw (pair-renumbered m i j e .is) (refl, refl))
+      (λ e.
+      rw (ready-renumbered m e, renumber-prepared m) (rounds-alike (suc (mostRounds n)) 0 (prepared n m)))
 
   -- the renumbered matrix is accepted after as many rounds, with the network renumbered
-  pub renumber-accepted : (m : List ℕ) (count : ℕ) (w : List ℕ) → refine n m ≡ accepted count w
-      → refine n (renumbered n π m) ≡ accepted count (renumbered n π w)
-  renumber-accepted m count w e =
-      read (refine n (renumbered n π m)) (subst (λ (o : Outcome). Alike o (refine n (renumbered n π m))) e (refine-alike m))
+  pub renumber-accepted : (m w : List ℕ) (count : ℕ) → refine n m ≡ accepted w count
+      → refine n (renumbered n π m) ≡ accepted (renumbered n π w) count
+  renumber-accepted m w count e =
+      read (refine n (renumbered n π m))
+      (subst (λ (o : Ending (List ℕ)). Alike n π o (refine n (renumbered n π m))) e (refine-alike m))
     where
-      read : (o : Outcome) → Alike (accepted count w) o → o ≡ accepted count (renumbered n π w)
-      read (accepted rounds v) a = ap₂ accepted (sym (a .0)) (a .1)
-      read (refused x i k j rounds) a = absurd a
+      read : (o : Ending (List ℕ)) → Alike n π (accepted w count) o → o ≡ accepted (renumbered n π w) count
+      read (accepted v rounds) a = ap₂ accepted (a .0) (sym (a .1))
+      read (refused numbers) a = absurd a
 
   -- and one that is refused is refused by the same number in the same round
-  pub renumber-refused : (m : List ℕ) (number i k j count : ℕ) → refine n m ≡ refused number i k j count
-      → (a : ℕ) × (b : ℕ) × (c : ℕ) × (refine n (renumbered n π m) ≡ refused number a b c count)
-  renumber-refused m number i k j count e =
-      read (refine n (renumbered n π m)) (subst (λ (o : Outcome). Alike o (refine n (renumbered n π m))) e (refine-alike m))
+  pub renumber-refused : (m : List ℕ) (numbers : Answer) → refine n m ≡ refused numbers
+      → (others : Answer) × (refine n (renumbered n π m) ≡ refused others) × (others .number ≡ numbers .number)
+      × (others .count ≡ numbers .count)
+  renumber-refused m numbers e =
+      read (refine n (renumbered n π m))
+      (subst (λ (o : Ending (List ℕ)). Alike n π o (refine n (renumbered n π m))) e (refine-alike m))
     where
-      read : (o : Outcome) → Alike (refused number i k j count) o
-          → (a : ℕ) × (b : ℕ) × (c : ℕ) × (o ≡ refused number a b c count)
-      read (accepted rounds v) l = absurd l
-      read (refused x a b c rounds) l =
-          (a, b, c, ap₂ (λ (y z : ℕ). refused y a b c z) (sym (l .0)) (sym (l .1)))
+      read : (o : Ending (List ℕ)) → Alike n π (refused numbers) o
+          → (others : Answer) × (o ≡ refused others) × (others .number ≡ numbers .number) × (others .count ≡ numbers .count)
+      read (accepted v rounds) l = absurd l
+      read (refused others) l = (others, refl, sym (l .0), sym (l .1))
 
 -- renumbered and renumbered back, a matrix is what it was
 pub renumbered-back : (n : ℕ) (π : Renumbering n) (m : List ℕ) → length m ≡ n * n → renumbered n (back π) (renumbered n π m) ≡ m

@@ -1,21 +1,21 @@
 -- What is left to lose in a matrix: it is at most the document's bound on rounds, and every round that changes something makes
--- it less. Assumes nothing.
+-- it less.
 use mathlib.Core.Path.{_≡_, refl, sym, ap, _∙_, subst}
 use mathlib.Core.List.{List}
 use Prim.Native.Nat.{ℕ, zero, suc, _+_, _-_, _*_, _/_, _≤_, _<_}
 use native.Mathlib.Nat.{zero-lt-suc, add-mul-div-right, le-trans, le-of-eq, mul-le-mul, mul-le-mul-left, div-le-self}
 use native.Mathlib.Omega.{arith}
-use Rattle.region.proofs.Splits.{split-lt}
+use Rattle.lists.proofs.Splits.{split-lt}
 use Rattle.relation.specs.Sets.{size}
 use Rattle.relation.specs.Converse.{converse}
 use Rattle.relation.proofs.Within.{within-byte}
 use Rattle.relation.proofs.Size.{size-within, size-within-less, size-some, size-most}
 use Rattle.matrix.specs.Cells.{cell}
 use Rattle.matrix.proofs.CellLaws.{Change}
-use Rattle.matrix.proofs.Sums.{sumTo, sum-le, sum-lt, sum-constant}
+use Rattle.lists.proofs.Sums.{sumTo, sum-le, sum-lt, sum-constant}
 use Rattle.refinement.specs.Refine.{mostRounds}
 use Rattle.refinement.specs.Network.{Below}
-use Rattle.refinement.proofs.Stages.{Bytes, Filled, Plain}
+use Rattle.refinement.specs.Plain.{Bytes, Filled, Plain}
 
 -- for each i < j, the members of (i, j) but one
 unfoldable pub slack : ℕ → List ℕ → ℕ

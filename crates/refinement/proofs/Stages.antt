@@ -1,5 +1,4 @@
 -- The cells of each stage, that each stage goes down and keeps every network, and what every round starts from.
--- Assumes nothing.
 use mathlib.Core.Path.{_≡_, refl, sym, ap, ap₂, _∙_, subst}
 use mathlib.Core.Bool.{Bool, cond}
 use mathlib.Core.List.{List}
@@ -10,37 +9,22 @@ use native.Mathlib.Omega.{arith}
 use borrow.Author.Tests.{eqb-true, eqb-false, eq-eqb, ne-eqb}
 use lib.Dec.{eqb, lit<}
 use lib.ListN.{length, getD}
-use Rattle.region.specs.Least.{least}
-use Rattle.region.proofs.Splits.{split-lt, split-eq}
-use Rattle.region.proofs.LeastLaws.{least-is, least-same}
+use Rattle.lists.proofs.Splits.{split-lt, split-eq}
+use Rattle.lists.proofs.LeastLaws.{least-is}
 use Rattle.relation.specs.Relations.{equal}
 use Rattle.relation.specs.Sets.{Within, only, empty, universal, intersect}
 use Rattle.relation.specs.Converse.{converse}
 use Rattle.relation.specs.Composition.{compose}
-use Rattle.relation.proofs.Within.{intersect-comm, within-refl, within-of-eq, within-trans, within-left, within-right, within-both, within-empty, within-byte, byte-within-universal, only-equal-within}
+use Rattle.relation.proofs.Within.{intersect-comm, intersect-assoc, within-refl, within-of-eq, within-trans, within-left, within-right, within-both, within-empty, within-byte, byte-within-universal, only-equal-within}
 use Rattle.relation.proofs.ConverseLaws.{converse-byte, converse-twice, converse-within, converse-intersect, converse-equal, converse-universal}
 use Rattle.relation.proofs.CompositionLaws.{compose-within, equal-compose, compose-equal, converse-compose, compose-loop}
-use Rattle.matrix.specs.Cells.{cell, row, column, grid, firstEmpty}
-use Rattle.matrix.proofs.CellLaws.{length-grid, at-place, cell-grid, grid-same, no-empty}
+use Rattle.matrix.specs.Cells.{cell, row, column, firstEmpty}
+use Rattle.matrix.proofs.CellLaws.{length-grid, at-place, cell-grid, no-empty}
 use Rattle.refinement.specs.Node.{nodeCell, node, emptyRegion}
 use Rattle.refinement.specs.Arc.{arcCell, arc}
 use Rattle.refinement.specs.Round.{through, round}
+use Rattle.refinement.specs.Plain.{Bytes, Filled, Plain}
 use Rattle.refinement.specs.Network.{Below, Network}
-
--- each cell is a byte
-pub record Bytes (n : ℕ) (m : List ℕ) : Type 0 where
-  pub byte : (i j : ℕ) → i < n → j < n → cell n m i j < 256
-
--- no cell is empty
-pub record Filled (n : ℕ) (m : List ℕ) : Type 0 where
-  pub filled : (i j : ℕ) → i < n → j < n → cell n m i j ≡ empty → ⊥
-
--- what every round starts from: bytes, none empty, only "equal" on the diagonal, opposite cells converse
-pub record Plain (n : ℕ) (m : List ℕ) : Type 0 where
-  pub bytes : Bytes n m
-  pub full : Filled n m
-  pub diagonal : (i : ℕ) → i < n → cell n m i i ≡ only equal
-  pub opposite : (i j : ℕ) → i < n → j < n → cell n m i j ≡ converse (cell n m j i)
 
 -- ---- matrices within one another
 
@@ -113,24 +97,7 @@ pub prepared-cell : (n : ℕ) (m : List ℕ) (i j : ℕ) → i < n → j < n
     → cell n (arc n (node n m)) i j ≡ intersect (nodeCell n m i j) (converse (nodeCell n m j i))
 prepared-cell n m i j hi hj = arc-cell n (node n m) i j hi hj ∙ prepared-arc n m i j hi hj
 
-pub prepared-grid : (n : ℕ) (m : List ℕ)
-    → arc n (node n m) ≡ grid n (λ i j. intersect (nodeCell n m i j) (converse (nodeCell n m j i)))
-unfolding arc
-prepared-grid n m =
-    grid-same n (arcCell n (node n m)) (λ i j. intersect (nodeCell n m i j) (converse (nodeCell n m j i))) (prepared-arc n m)
-
-pub prepared-region : (n : ℕ) (m : List ℕ)
-    → emptyRegion n (node n m) ≡ least n (λ i. eqb (intersect (cell n m i i) (only equal)) 0)
-unfolding emptyRegion
-prepared-region n m =
-    least-same n (λ i. eqb (cell n (node n m) i i) 0) (λ i. eqb (intersect (cell n m i i) (only equal)) 0)
-    (λ i h. ap (λ (x : ℕ). eqb x 0) (node-self n m i h))
-
 -- ---- the intersection over places
-
-pub through-none : (n : ℕ) (m : List ℕ) (i j : ℕ) → through n m i j 0 ≡ universal
-unfolding through
-through-none n m i j = refl
 
 pub through-more : (n : ℕ) (m : List ℕ) (i j k : ℕ)
     → through n m i j (k + 1) ≡ intersect (through n m i j k) (compose (cell n m i k) (cell n m k j))
@@ -292,29 +259,48 @@ pub arc-diagonal : (n : ℕ) (m : List ℕ) → ((i : ℕ) → i < n → cell n 
 arc-diagonal n m D i h =
     arc-cell n m i i h h ∙ ap (λ (x : ℕ). intersect x (converse x)) (D i h) ∙ ap (intersect (only equal)) converse-equal
 
-pub arc-opposite : (n : ℕ) (m : List ℕ) → Bytes n m → (i j : ℕ) → i < n → j < n
-    → cell n (arc n m) i j ≡ converse (cell n (arc n m) j i)
-arc-opposite n m A i j hi hj =
-    let x : ℕ = cell n m i j in
-    let y : ℕ = cell n m j i in
-    arc-cell n m i j hi hj ∙ intersect-comm x (converse y)
-    ∙ ap (intersect (converse y)) (sym (converse-twice x (A .byte i j hi hj)))
-    ∙ sym (converse-intersect y (converse x)) ∙ ap converse (sym (arc-cell n m j i hj hi))
+-- a converse looks at the eight relations alone, so that stated cells need not be bytes
+converse-eight : (x : ℕ) → converse (intersect x universal) ≡ converse x
+converse-eight x =
+    converse-intersect x universal ∙ ap (intersect (converse x)) converse-universal
+    ∙ byte-within-universal (converse x) (converse-byte x) .meets
 
-pub arc-plain : (n : ℕ) (m : List ℕ) → Bytes n m → ((i : ℕ) → i < n → cell n m i i ≡ only equal) → Filled n (arc n m)
+converse-back : (x : ℕ) → converse (converse x) ≡ intersect x universal
+converse-back x =
+    ap converse (sym (converse-eight x))
+    ∙ converse-twice (intersect x universal) (within-byte (within-right x universal) (lit< tt))
+
+pub arc-opposite : (n : ℕ) (m : List ℕ) (i j : ℕ) → i < n → j < n → cell n (arc n m) i j ≡ converse (cell n (arc n m) j i)
+arc-opposite n m i j hi hj =
+    let x : ℕ = cell n m i j in
+    let y : ℕ = converse (cell n m j i) in
+    let byte : intersect y x < 256 = within-byte (within-left y x) (converse-byte (cell n m j i)) in
+    arc-cell n m i j hi hj ∙ intersect-comm x y
+    ∙ sym (byte-within-universal (intersect y x) byte .meets) ∙ intersect-assoc y x universal
+    ∙ ap (intersect y) (sym (converse-back x))
+    ∙ sym (converse-intersect (cell n m j i) (converse x)) ∙ ap converse (sym (arc-cell n m j i hj hi))
+
+pub arc-bytes : (n : ℕ) (m : List ℕ) → Bytes n (arc n m)
+arc-bytes n m = record {
+  byte = λ i j hi hj.
+      rw (arc-cell n m i j hi hj)
+      (within-byte (within-right (cell n m i j) (converse (cell n m j i))) (converse-byte (cell n m j i)));
+}
+
+pub arc-plain : (n : ℕ) (m : List ℕ) → ((i : ℕ) → i < n → cell n m i i ≡ only equal) → Filled n (arc n m)
     → Plain n (arc n m)
-arc-plain n m A D F = record {
-  bytes = below-bytes n (arc-below n m) A;
+arc-plain n m D F = record {
+  bytes = arc-bytes n m;
   full = F;
   diagonal = arc-diagonal n m D;
-  opposite = arc-opposite n m A;
+  opposite = arc-opposite n m;
 }
 
 -- where the arc rule leaves no cell empty, the rounds can start
-pub arc-done : (n : ℕ) (m : List ℕ) → Bytes n m → n ≤ emptyRegion n (node n m) → n * n ≤ firstEmpty n (arc n (node n m))
+pub arc-done : (n : ℕ) (m : List ℕ) → n ≤ emptyRegion n (node n m) → n * n ≤ firstEmpty (n * n) (arc n (node n m))
     → Plain n (arc n (node n m))
-arc-done n m A l h =
-    arc-plain n (node n m) (below-bytes n (node-below n m) A) (node-done n m l)
+arc-done n m l h =
+    arc-plain n (node n m) (node-done n m l)
     (record { filled = no-empty n (arc n (node n m)) h })
 
 -- the intersections of two opposite cells are each other's converse

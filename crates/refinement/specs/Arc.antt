@@ -1,4 +1,4 @@
--- The arc rule. Assumes nothing.
+-- The arc rule.
 use Prim.Native.Nat.{ℕ}
 use mathlib.Core.List.{List}
 use Rattle.relation.specs.Sets.{intersect}

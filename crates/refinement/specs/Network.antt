@@ -1,4 +1,4 @@
--- What demand 3 asks of a network. Assumes nothing.
+-- What demand 3 asks of a network.
 use mathlib.Core.Path.{_≡_}
 use mathlib.Core.List.{List}
 use Prim.Native.Nat.{ℕ, _*_, _<_}
@@ -31,3 +31,8 @@ pub record Network (n : ℕ) (m w : List ℕ) : Type 0 where
 pub record Largest (n : ℕ) (m w : List ℕ) : Type 0 where
   pub network : Network n m w
   pub contains : (v : List ℕ) → Network n m v → Below n v w
+
+-- there is a network within the stated sets
+pub record Exists (n : ℕ) (m : List ℕ) : Type 0 where
+  pub network : List ℕ
+  pub is : Network n m network

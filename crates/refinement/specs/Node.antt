@@ -1,9 +1,9 @@
--- The node rule. Assumes nothing.
+-- The node rule.
 use Prim.Native.Nat.{ℕ}
 use mathlib.Core.Bool.{cond}
 use mathlib.Core.List.{List}
 use lib.Dec.{eqb}
-use Rattle.region.specs.Least.{least}
+use Rattle.lists.specs.Least.{least}
 use Rattle.relation.specs.Relations.{equal}
 use Rattle.relation.specs.Sets.{only, intersect}
 use Rattle.matrix.specs.Cells.{cell, grid}

@@ -1,8 +1,8 @@
--- A round, and the path by which a cell runs empty. Assumes nothing.
+-- A round, and the path by which a cell runs empty.
 use Prim.Native.Nat.{ℕ, zero, suc}
 use mathlib.Core.List.{List}
 use lib.Dec.{eqb}
-use Rattle.region.specs.Least.{least}
+use Rattle.lists.specs.Least.{least}
 use Rattle.relation.specs.Sets.{universal, intersect}
 use Rattle.relation.specs.Composition.{compose}
 use Rattle.matrix.specs.Cells.{cell, grid}

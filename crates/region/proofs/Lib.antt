@@ -1,4 +1,4 @@
-pub mod Splits
-pub mod LeastLaws
+-- looking an identifier up
 pub mod LookupLaws
+-- no second answer meets a contract
 pub mod Unique

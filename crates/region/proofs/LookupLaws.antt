@@ -1,4 +1,4 @@
--- What looking an identifier up says of the entries, and what the entries say of it. Assumes nothing.
+-- What looking an identifier up says of the entries, and what the entries say of it.
 use mathlib.Core.Path.{_≡_, refl, sym, ap, subst}
 use mathlib.Core.Bool.{Bool, true, false}
 use mathlib.Core.List.{List}
@@ -11,8 +11,8 @@ use Rattle.region.specs.Lookup.{place, identifier, declared, firstHoldin
 use Rattle.region.specs.declared.Identifier.{Identifier}
 use Rattle.region.specs.declared.Place.{Place}
 use Rattle.region.specs.declared.Found.the-variants.{At, Nothing}
-use Rattle.region.proofs.Splits.{split-lt}
-use Rattle.region.proofs.LeastLaws.{least-is, least-here, least-gone}
+use Rattle.lists.proofs.Splits.{split-lt}
+use Rattle.lists.proofs.LeastLaws.{least-is, least-here, least-gone}
 
 -- what the place that is found is
 pub record Holds (identifiers : List ℕ) (count p wanted : ℕ) : Type 0 where

@@ -1,10 +1,10 @@
--- Looking an identifier up: the only passage from an identifier to a place. Assumes nothing.
+-- Looking an identifier up: the only passage from an identifier to a place.
 use Prim.Native.Nat.{ℕ, min}
 use mathlib.Core.Bool.{cond}
 use mathlib.Core.List.{List}
 use lib.Dec.{eqb, ltb}
 use lib.ListN.{length, getD}
-use Rattle.region.specs.Least.{least}
+use Rattle.lists.specs.Least.{least}
 use Rattle.region.specs.declared.Identifier.{Identifier}
 use Rattle.region.specs.declared.Place.{Place}
 use Rattle.region.specs.declared.Found.{Found}

@@ -1,4 +1,4 @@
--- The laws of the composition of two sets, each for all sets for which it holds. Assumes nothing.
+-- The laws of the composition of two sets, each for all sets for which it holds.
 use Prim.Native.Nat.{ℕ, _+_, _*_, _<_}
 use mathlib.Core.Path.{_≡_, sym, _∙_, subst}
 use lib.Dec.{T, lit<}

@@ -1,4 +1,4 @@
--- The laws of the converse of a set, each for every set for which it holds. Assumes nothing.
+-- The laws of the converse of a set, each for every set for which it holds.
 use Prim.Native.Nat.{ℕ, _<_}
 use mathlib.Core.Path.{_≡_, refl, sym, ap, _∙_, subst}
 use mathlib.Core.Bool.{Bool}

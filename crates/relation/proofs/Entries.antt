@@ -1,4 +1,4 @@
--- The laws of the table of compositions and of the converse, by one test over the 64 entries, which antt computes. Assumes nothing.
+-- The laws of the table of compositions and of the converse, by one test over the 64 entries, which antt computes.
 use Prim.Native.Nat.{ℕ, _+_, _*_, _/_, _%_, _<_}
 use mathlib.Core.Path.{_≡_, ap, _∙_}
 use mathlib.Core.Bool.{Bool}

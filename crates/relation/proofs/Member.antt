@@ -1,4 +1,4 @@
--- Membership: of a union, an intersection, a set of one relation; and numbers with the same members are equal. Assumes nothing.
+-- Membership: of a union, an intersection, a set of one relation; and numbers with the same members are equal.
 use Prim.Native.Nat.{ℕ, zero, suc, _+_, _*_, _/_, _%_, _^_, _≤_, _<_}
 use mathlib.Core.Path.{_≡_, refl, sym, ap, ap₂, _∙_, subst}
 use mathlib.Core.Logic.{_⊎_, inl, inr, ⊎-elim}

@@ -1,6 +1,6 @@
 -- The laws of `over`, the union of the sets f r over the members r of a set: it is monotone, a set of one relation and the sets of one relation
 -- are its units, two of them associate and change places, and it distributes over unions. All that is said of converse and composition
--- follows from these. Assumes nothing.
+-- follows from these.
 use Prim.Native.Nat.{ℕ, zero, suc, _+_, _<_}
 use mathlib.Core.Path.{_≡_, refl, sym, ap, subst}
 use mathlib.Core.Logic.{inl, inr, ⊎-elim}

@@ -1,4 +1,4 @@
--- The number of members of a set, along the order of sets. Assumes nothing.
+-- The number of members of a set, along the order of sets.
 use Prim.Native.Nat.{ℕ, zero, suc, _≤_, _<_, zero-le}
 use mathlib.Core.Path.{_≡_, refl, sym, subst}
 use mathlib.Core.Logic.{⊎-elim}

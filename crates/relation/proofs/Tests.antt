@@ -1,4 +1,4 @@
--- Tests, taken apart and put together; a test at every number below a bound, and a list of tests. Assumes nothing.
+-- Tests, taken apart and put together; a test at every number below a bound, and a list of tests.
 use Prim.Native.Nat.{ℕ, zero, suc, _<_}
 use mathlib.Core.Path.{_≡_, refl, sym, subst}
 use mathlib.Core.Logic.{_⊎_, inl, inr, ⊎-elim}

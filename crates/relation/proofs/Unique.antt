@@ -1,4 +1,4 @@
--- No second answer meets a public call's contract. No call writes what it is lent, so its answer is all that it leaves. Assumes nothing.
+-- No second answer meets a public call's contract. No call writes what it is lent, so its answer is all that it leaves.
 use Prim.Native.Nat.{ℕ}
 use mathlib.Core.Path.{_≡_, sym, ap, _∙_}
 use mathlib.Core.List.{List}

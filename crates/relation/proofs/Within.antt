@@ -1,4 +1,4 @@
--- The order of sets: Within a b, that every member of a is one of b. Intersection is the greatest set within both. Assumes nothing.
+-- The order of sets: Within a b, that every member of a is one of b. Intersection is the greatest set within both.
 use mathlib.Core.Path.{_≡_, sym, ap, _∙_, subst}
 use Prim.Native.Nat.{ℕ, suc, _≤_, _<_}
 use mathlib.Core.Bool.{Bool, _&&_, and-assoc}

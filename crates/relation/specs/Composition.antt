@@ -1,4 +1,4 @@
--- Composition: what the first region can be to the third, from what it is to the second and the second to the third. Assumes nothing.
+-- Composition: what the first region can be to the third, from what it is to the second and the second to the third.
 use Prim.Native.Nat.{ℕ}
 use mathlib.Core.List.{List, [], _∷_}
 use lib.ListN.{getD}

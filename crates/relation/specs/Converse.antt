@@ -1,4 +1,4 @@
--- The converse of a relation, and of a set: what the second region is to the first. Assumes nothing.
+-- The converse of a relation, and of a set: what the second region is to the first.
 use Prim.Native.Nat.{ℕ}
 use mathlib.Core.List.{[], _∷_}
 use lib.ListN.{getD}

@@ -1,4 +1,4 @@
--- The 64 compositions as one list, made once and lent to whoever composes many sets. Assumes nothing.
+-- The 64 compositions as one list, made once and lent to whoever composes many sets.
 use Prim.Native.Nat.{ℕ, _+_, _*_}
 use mathlib.Core.List.{List, [], _∷_, _++_}
 use lib.ListN.{getD}

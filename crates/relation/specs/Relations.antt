@@ -1,4 +1,4 @@
--- The eight relations between two regions, each by its place in the order of the bits. Assumes nothing.
+-- The eight relations between two regions, each by its place in the order of the bits.
 use Prim.Native.Nat.{ℕ}
 
 -- no point in common

@@ -1,4 +1,4 @@
--- Sets of the eight relations. A set is a byte: relation r is a member where the bit of value 2 ^ r is 1. Assumes nothing.
+-- Sets of the eight relations. A set is a byte: relation r is a member where the bit of value 2 ^ r is 1.
 use mathlib.Core.Path.{_≡_}
 use Prim.Native.Nat.{ℕ, zero, suc, _+_, _/_, _%_, _^_}
 use mathlib.Core.Bool.{Bool, cond}

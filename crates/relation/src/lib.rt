@@ -25,8 +25,11 @@ const COMPOSITION: [[u8; 8]; 8] = [
     [227, 227, 128, 152, 152, 227, 227, 255],
 ];
 
+// The table that composing reads.
+pub type Compositions = [u8; 64];
+
 // The 64 compositions in one piece, to be made once and lent: a constant is filled anew wherever it is named.
-pub fn compositions() -> [u8; 64]
+pub fn compositions() -> Compositions
     ensures { λ r. ⌜ r ≡ listed ⌝ }
 {
     let rows = COMPOSITION;
@@ -40,7 +43,7 @@ pub fn compositions() -> [u8; 64]
 }
 
 // The union of the entries of one row, from its first entry on, over the members of a set.
-fn row_union(entries: &[u8; 64], from: usize, set: RelationSet) -> u8
+fn row_union(entries: &Compositions, from: usize, set: RelationSet) -> u8
     requires { ⌜ from ≤ 56 ⌝ }
     ensures { λ r. ⌜ r ≡ over (set .0) (λ q. getD (now (entries .entry)) (from + q) 0) ⌝ }
 {
@@ -141,7 +144,7 @@ impl RelationSet {
     }
 
     // The composition by entries that the caller lends; by those of `compositions` it is the composition of the two sets.
-    pub fn compose_by(self, entries: &[u8; 64], other: Self) -> Self
+    pub fn compose_by(self, entries: &Compositions, other: Self) -> Self
         ensures { λ r. ⌜ r .0 ≡ composeBy (now (entries .entry)) (self .0) (other .0) ⌝ }
     {
         let mut union: u8 = 0;

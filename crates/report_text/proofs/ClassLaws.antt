@@ -1,18 +1,11 @@
--- The classes by document 01's rule: one and only one of its five lines holds of a pair, and that is the class. Assumes nothing.
+-- The classes by document 01's rule: one and only one of its five lines holds of a pair, and that is the class.
 use mathlib.Core.Path.{_≡_, sym, _∙_}
-use Prim.Native.Nat.{ℕ, _≤_, _<_}
+use Prim.Native.Nat.{ℕ, _≤_}
 use native.Mathlib.Omega.{arith}
 use borrow.Author.Tests.{lt-ltb, le-ltb, eq-eqb, ne-eqb}
-use Rattle.region.proofs.Splits.{split-lt, split-eq}
-use Rattle.report_text.specs.Class.{observed, determined, enhanced, asStated, unknown, classOf}
-
--- the rule, line by line, with s the stated size and f the refined size
-pub data Rule (s f : ℕ) : ℕ → Type 0 where
-  is-observed : s ≡ 1 → Rule s f observed
-  is-determined : f ≡ 1 → 1 < s → Rule s f determined
-  is-enhanced : f < s → 1 < f → Rule s f enhanced
-  is-as-stated : s ≡ f → 1 < f → f < 8 → Rule s f asStated
-  is-unknown : s ≡ 8 → f ≡ 8 → Rule s f unknown
+use Rattle.lists.proofs.Splits.{split-lt, split-eq}
+use Rattle.report_text.specs.Class.{classOf}
+use Rattle.report_text.specs.Rule.{Rule, is-observed, is-determined, is-enhanced, is-as-stated, is-unknown}
 
 -- a line that holds gives the class
 pub rule-class : (s f class : ℕ) → Rule s f class → class ≡ classOf s f

@@ -1,8 +1,8 @@
--- Document 01's example scene and its variant: their reports, by computation. Assumes nothing.
+-- Document 01's example scene and its variant: their reports, by computation.
 use mathlib.Core.Path.{_≡_, refl}
 use mathlib.Core.List.{List, [], _∷_, _++_}
 use Prim.Native.Nat.{ℕ}
-use Rattle.region.specs.Least.{leastFrom, least}
+use Rattle.lists.specs.Least.{leastFrom, least}
 use Rattle.region.specs.Lookup.{firstHolding, lookupOf}
 use Rattle.relation.specs.Sets.{has, unionOf, over, membersBelow, size}
 use Rattle.relation.specs.Converse.{flip, converse}
@@ -11,11 +11,14 @@ use Rattle.matrix.specs.Cells.{listFrom, grid, firstEmpty, firstChange}
 use Rattle.refinement.specs.Node.{node, emptyRegion}
 use Rattle.refinement.specs.Arc.{arc}
 use Rattle.refinement.specs.Round.{through, round, ranOut}
+use Rattle.refinement.specs.Prepare.{preparation}
+use Rattle.refinement.specs.Step.{stepOf}
 use Rattle.refinement.specs.Refine.{mostRounds, rounds, refine}
 use Rattle.scene.specs.Format.{lengthOf}
-use Rattle.scene.specs.Statements.{statedCell}
-use Rattle.scene.specs.Record.{regionRecord, statementRecord, endRecord, recordAt}
-use Rattle.scene.specs.Reading.{readFrom, readOf}
+use Rattle.filing.specs.Places.{placeOf}
+use Rattle.filing.specs.Stated.{statedCell}
+use Rattle.scene.specs.Record.{judgedRegion, judgedStatement, judgedEnd, recordAt}
+use Rattle.scene.specs.Reading.{readFrom, readScene}
 use Rattle.text.specs.Decimal.{decimalUpTo}
 use Rattle.text.specs.Line.{line}
 use Rattle.report_text.specs.Class.{classOf}
@@ -40,7 +43,7 @@ example-text =
     ++ (57 ∷ 32 ∷ 52 ∷ 32 ∷ 56 ∷ 32 ∷ 79 ∷ 10 ∷ [])
 
 pub example-report : reportOf (example 4) ≡ example-text
-unfolding reportOf pairLines classOf line decimalUpTo readOf readFrom recordAt regionRecord statementRecord endRecord lengthOf lookupOf firstHolding statedCell grid listFrom refine node emptyRegion arc rounds round through ranOut mostRounds firstEmpty firstChange least leastFrom has unionOf over membersBelow size flip converse rows table compose example example-text
+unfolding reportOf pairLines classOf line decimalUpTo readScene readFrom recordAt judgedRegion judgedStatement judgedEnd placeOf lengthOf lookupOf firstHolding statedCell grid listFrom refine preparation stepOf node emptyRegion arc rounds round through ranOut mostRounds firstEmpty firstChange least leastFrom has unionOf over membersBelow size flip converse rows table compose example example-text
 example-report = refl
 
 -- with the third identifier 9 as well: `refused 7 10 0 0` and a line feed
@@ -48,5 +51,5 @@ pub twice-text : List ℕ
 twice-text = 114 ∷ 101 ∷ 102 ∷ 117 ∷ 115 ∷ 101 ∷ 100 ∷ 32 ∷ 55 ∷ 32 ∷ 49 ∷ 48 ∷ 32 ∷ 48 ∷ 32 ∷ 48 ∷ 10 ∷ []
 
 pub twice-report : reportOf (example 9) ≡ twice-text
-unfolding reportOf line decimalUpTo readOf readFrom recordAt regionRecord statementRecord endRecord lengthOf lookupOf firstHolding least leastFrom example twice-text
+unfolding reportOf line decimalUpTo readScene readFrom recordAt judgedRegion judgedStatement judgedEnd placeOf lengthOf lookupOf firstHolding least leastFrom example twice-text
 twice-report = refl

@@ -1,4 +1,4 @@
--- A line that is put field by field is the line. Assumes nothing.
+-- A line that is put field by field is the line.
 use mathlib.Core.Path.{_≡_, ap, subst}
 use mathlib.Core.List.{List, [], _∷_, _++_, append-assoc}
 use Prim.Native.Nat.{ℕ, _+_, _*_, _≤_, _<_}

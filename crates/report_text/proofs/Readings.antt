@@ -1,31 +1,33 @@
--- The report of a reading, by its numbers. Assumes nothing.
-use mathlib.Core.Path.{_≡_, refl, sym, ap, _∙_}
+-- The report of a reading, by its answer.
+use mathlib.Core.Path.{_≡_, refl, sym, ap, _∙_, subst}
 use mathlib.Core.List.{List, _++_}
 use Prim.Native.Nat.{ℕ, zero, suc, _+_, _*_, _≤_}
 use native.Mathlib.Nat.{zero-add, mul-le-mul}
 use native.Mathlib.Omega.{arith}
-use lib.ListN.{length, getD, take, drop, replicate, List·getD-eq-default, length-append, length-take}
-use lib.Seq.{take-all, take-at}
-use Rattle.region.proofs.Splits.{split-lt}
-use Rattle.answer.specs.Answer.{Answer}
+use lib.ListN.{length, getD, take, drop, replicate, length-replicate, List·getD-eq-default, length-append, length-take}
+use lib.Seq.{take-all}
+use Rattle.lists.specs.Laid.{laid}
+use Rattle.lists.proofs.Splits.{split-lt}
+use Rattle.answer.specs.Ending.{Ending, accepted, refused}
+use Rattle.matrix.specs.Square.{Square}
 use Rattle.matrix.specs.Cells.{grid, row, column}
-use Rattle.matrix.specs.Laid.{laid}
 use Rattle.matrix.proofs.CellLaws.{length-grid}
-use Rattle.refinement.specs.Outcome as refinement
 use Rattle.refinement.specs.Refine.{refine}
+use Rattle.filing.specs.Stated.{statedCell}
+use Rattle.filing.specs.Areas.{Areas, Lent, holding, padded}
+use Rattle.filing.proofs.Padded.{padded-in, padded-past}
 use Rattle.scene.specs.declared.Reading.{Reading}
 use Rattle.scene.specs.declared.Reading.the-variants.{Accepted, WrongLength, TooLong, Refused}
-use Rattle.scene.specs.Numbers.{answerOf}
-use Rattle.scene.specs.Statements.{Said, regions, statedCell}
-use Rattle.scene.specs.Reading.{Outcome, accepted, refusedAt, answered, readOf}
-use Rattle.scene.specs.Reads.{Reads, padded, identifiersAfter, cellsAfter}
-use Rattle.scene.proofs.Padded.{padded-in, padded-past}
-use Rattle.scene.proofs.Numbered.{numbered}
-use Rattle.scene.proofs.Answers.{AcceptedSo, Tells, tells}
-use Rattle.scene.proofs.Different.{accepted-different, accepted-some}
+use Rattle.scene.specs.declared.Refusal.{Refusal}
+use Rattle.scene.specs.Format.{mostBytes}
+use Rattle.scene.specs.Numbers.{numberOf}
+use Rattle.scene.specs.Reading.{acceptedSaid, refusedAt, readScene}
+use Rattle.scene.specs.Reads.{Reads, startingCell}
+use Rattle.scene.proofs.Endings.{right-areas}
+use Rattle.scene.proofs.Answers.{AcceptedLeaves, accepted-leaves, refused-leaves, too-long-leaves, wrong-length-leaves, right-lengths}
 use Rattle.text.specs.Put.{Adds, overwritten}
 use Rattle.report_text.specs.Report.{refusalLine, pairLines, refinedReport, readReport, reportOf, Reported}
-use Rattle.report_text.specs.Inner.{Stated, Reports}
+use Rattle.report_text.specs.Inner.{Reports}
 use Rattle.report_text.proofs.Short.{refusal-short}
 
 -- ---- from a text that was put to the report
@@ -54,60 +56,33 @@ reported-within {scene} {buffer} {buffer′} {count} r =
       r .size,
     )
 
+-- the areas that the report reads a scene into
+abbrev pub blank : Areas
+blank = holding (replicate 64 0) (replicate 4096 0)
+
+blank-lent : Lent blank
+blank-lent =
+    record { identifiers-long = length-replicate {A = ℕ} 64 0; cells-long = length-replicate {A = ℕ} 4096 0 }
+
 -- ---- an accepted scene
 
--- what was said, in the areas of the reading
-pub record Accepts (scene identifiers cells : List ℕ) (n : ℕ) : Type 0 where
-  pub said : Said
-  pub ending : readOf scene 64 4096 ≡ accepted said
-  pub counted : regions said ≡ n
-  pub some : 1 ≤ n
-  pub few : n ≤ 64
-  pub identifiers-are : identifiers ≡ padded 64 (said .identifiers)
-  pub cells-are : take (n * n) cells ≡ grid n (statedCell (said .statements))
+abbrev pub AcceptedScene : List ℕ → List ℕ → List ℕ → ℕ → Type 0
+AcceptedScene scene identifiers cells n = AcceptedLeaves scene blank (holding identifiers cells) n
 
-front-cells : (n count : ℕ) (f : ℕ → ℕ → ℕ) → n ≡ count → take (count * count) (padded 4096 (grid n f)) ≡ grid count f
-front-cells n count f e = rw (← e) (take-at (grid n f) _ (n * n) (length-grid n f))
-
--- an answer with the number 0 is an acceptance
-accepted-so : (reading : Reading) (outcome : Outcome) → Tells reading outcome → answerOf reading .number ≡ 0
-    → AcceptedSo outcome (answerOf reading .count)
-accepted-so (Accepted count) outcome t z = t
-accepted-so WrongLength outcome t z = absurd (omega arith)
-accepted-so TooLong outcome t z = absurd (omega arith)
-accepted-so (Refused refusal place) outcome t z = absurd (omega (arith, numbered refusal .positive))
-
-pub accepted-read : {scene identifiers cells : List ℕ} {reading : Reading} {a : Answer}
-    → Reads scene (replicate 64 0) (replicate 4096 0) identifiers cells reading → a ≡ answerOf reading → a .number ≡ 0
-    → Accepts scene identifiers cells (a .count)
-unfolding identifiersAfter cellsAfter
-accepted-read {scene} {identifiers} {cells} {reading} {a} r t z =
-    let so = accepted-so reading (readOf scene 64 4096) (tells scene 64 4096 reading (r .answer)) (sym (ap (λ (x : Answer). x .number) t) ∙ z) in
-    let n : regions (so .said) ≡ a .count = so .counted ∙ sym (ap (λ (x : Answer). x .count) t) in
-    let few = accepted-different scene 64 4096 (so .said) (so .ending) .few in
-    let some = accepted-some scene 64 4096 (so .said) (so .ending) in
-    record {
-      said = so .said;
-      ending = so .ending;
-      counted = n;
-      some = omega arith;
-      few = omega arith;
-      identifiers-are = r .identifiers ∙ ap (λ (o : Outcome). identifiersAfter o (replicate 64 0)) (so .ending);
-      cells-are =
-          ap (take (a .count * a .count)) (r .cells ∙ ap (λ (o : Outcome). cellsAfter o (replicate 4096 0)) (so .ending))
-          ∙ front-cells (regions (so .said)) (a .count) (statedCell (so .said .statements)) n;
-    }
+pub accepted-read : {scene identifiers cells : List ℕ} {reading : Reading} {n : ℕ}
+    → Reads scene blank (holding identifiers cells) reading → reading ≡ Accepted n → AcceptedScene scene identifiers cells n
+accepted-read {scene} {identifiers} {cells} r e = accepted-leaves (subst (Reads scene blank (holding identifiers cells)) e r)
 
 -- the cells in front are the stated ones
-module _ {scene identifiers cells : List ℕ} {n : ℕ} (a : Accepts scene identifiers cells n) where
+module _ {scene identifiers cells : List ℕ} {n : ℕ} (a : AcceptedScene scene identifiers cells n) where
   pub cells-few : n * n ≤ 4096
   cells-few = mul-le-mul (a .few) (a .few)
 
-  pub stated-front : Stated n (take (n * n) cells)
+  pub stated-front : Square n (take (n * n) cells)
   stated-front = record {
     some = a .some;
     few = a .few;
-    size = ap length (a .cells-are) ∙ length-grid n (statedCell (a .said .statements));
+    size = ap length (a .cells-front) ∙ length-grid n (statedCell startingCell (a .said .statements));
   }
 
 -- ---- identifiers and the zeros behind them
@@ -122,32 +97,47 @@ module _ (n : ℕ) (one other stated : List ℕ) (same : (k : ℕ) → getD one 
   same-pairs network zero = refl
   same-pairs network (suc count) = rw (same-pairs network count, same (row n count), same (column n count))
 
-  same-report : (ending : refinement.Outcome) → refinedReport n one stated ending ≡ refinedReport n other stated ending
-  same-report (refinement.accepted count network) = rw (same-pairs network (n * n))
-  same-report (refinement.refused number first second third count) = rw (same first, same second, same third)
+  same-report : (ending : Ending (List ℕ)) → refinedReport n one stated ending ≡ refinedReport n other stated ending
+  same-report (accepted network count) = rw (same-pairs network (n * n))
+  same-report (refused x) = rw (same (x .first), same (x .second), same (x .third))
 
-pub accepted-reported : {scene identifiers cells buffer buffer′ : List ℕ} {n count : ℕ} → Accepts scene identifiers cells n → 131072 ≤ length buffer
+pub accepted-reported : {scene identifiers cells buffer buffer′ : List ℕ} {n count : ℕ} → AcceptedScene scene identifiers cells n
+    → 131072 ≤ length buffer
     → Reports (refinedReport n identifiers (take (n * n) cells) (refine n (take (n * n) cells))) buffer buffer′ count
     → Reported scene buffer buffer′ count
 unfolding reportOf
 accepted-reported {scene} {identifiers} {cells} {n = n} a long r =
-    let stated : List ℕ = grid n (statedCell (a .said .statements)) in
-    let same : readReport (accepted (a .said)) ≡ refinedReport n identifiers (take (n * n) cells) (refine n (take (n * n) cells)) =
-    rw (a .counted, a .cells-are, a .identifiers-are)
+    let stated : List ℕ = grid n (statedCell startingCell (a .said .statements)) in
+    let same : readReport (acceptedSaid (a .said)) ≡ refinedReport n identifiers (take (n * n) cells) (refine n (take (n * n) cells)) =
+    rw (a .counted, a .cells-front, a .identifiers-are)
     (sym (same-report n (padded 64 (a .said .identifiers)) (a .said .identifiers) stated (same-entries 64 (a .said .identifiers)) (refine n stated))) in
-    reported long (ap readReport (a .ending) ∙ same) r
+    reported long (ap readReport (a .alone) ∙ same) r
 
 -- ---- a refused scene
 
-refused-areas : (outcome : Outcome) (a : Answer) → a ≡ answered outcome → (a .number ≡ 0 → ⊥)
-    → readReport outcome ≡ refusalLine (a .number) (a .first) 0 0
-refused-areas (accepted said) a q z = absurd (z (ap (λ (x : Answer). x .number) q))
-refused-areas (refusedAt number place) a q z = rw q
-
-pub refused-reported : {scene identifiers cells buffer buffer′ : List ℕ} {reading : Reading} {a : Answer} {count : ℕ}
-    → Reads scene (replicate 64 0) (replicate 4096 0) identifiers cells reading → a ≡ answerOf reading → (a .number ≡ 0 → ⊥) → 131072 ≤ length buffer
-    → Adds (refusalLine (a .number) (a .first) 0 0) buffer 0 buffer′ count → Reported scene buffer buffer′ count
+refused-reported : {scene buffer buffer′ : List ℕ} {count : ℕ} (number offset : ℕ) → readScene scene ≡ refusedAt number offset
+    → 131072 ≤ length buffer → Adds (refusalLine number offset 0 0) buffer 0 buffer′ count → Reported scene buffer buffer′ count
 unfolding reportOf
-refused-reported {scene} {a = a} r t z long adds =
-    reported long (refused-areas (readOf scene 64 4096) a (t ∙ r .answer) z)
-    (record { adds = adds; short = omega (arith, refusal-short (a .number) (a .first) 0 0) })
+refused-reported number offset e long adds =
+    reported long (ap readReport e) (record { adds = adds; short = omega (arith, refusal-short number offset 0 0) })
+
+module _ {scene identifiers cells buffer buffer′ : List ℕ} {reading : Reading} {count : ℕ}
+    (r : Reads scene blank (holding identifiers cells) reading) (long : 131072 ≤ length buffer) where
+  -- a record
+  pub record-reported : {refusal : Refusal} {offset : ℕ} → reading ≡ Refused refusal offset
+      → Adds (refusalLine (numberOf refusal) offset 0 0) buffer 0 buffer′ count → Reported scene buffer buffer′ count
+  record-reported {refusal} {offset} e adds =
+      let l = refused-leaves (subst (Reads scene blank (holding identifiers cells)) e r) in
+      refused-reported (numberOf refusal) offset (sym (right-areas scene blank-lent) ∙ l .ending) long adds
+
+  -- the length of the scene
+  pub length-reported : reading ≡ TooLong → Adds (refusalLine 3 mostBytes 0 0) buffer 0 buffer′ count → Reported scene buffer buffer′ count
+  length-reported e adds =
+      let l = too-long-leaves (subst (Reads scene blank (holding identifiers cells)) e r) in
+      refused-reported 3 mostBytes (sym (right-areas scene blank-lent) ∙ l .ending) long adds
+
+-- the areas have the right lengths
+pub never-wrong : {scene identifiers cells : List ℕ} {reading : Reading} → Reads scene blank (holding identifiers cells) reading
+    → reading ≡ WrongLength → ⊥
+never-wrong {scene} {identifiers} {cells} r e =
+    right-lengths scene blank-lent (wrong-length-leaves (subst (Reads scene blank (holding identifiers cells)) e r) .ending)

@@ -1,4 +1,4 @@
--- No report is longer than the buffer: at most 28 bytes for each of 4,096 cells, and a first line. Assumes nothing.
+-- No report is longer than the buffer: at most 28 bytes for each of 4,096 cells, and a first line.
 use mathlib.Core.Bool.{Bool, true, false, cond}
 use mathlib.Core.List.{List, [], _∷_, _++_}
 use Prim.Native.Nat.{ℕ, zero, suc, _+_, _*_, _≤_, _<_, zero-le}

@@ -1,5 +1,5 @@
 -- No second answer meets the contract of `class_of`, nor that of `report`: neither another count nor another byte of the
--- buffer. Assumes nothing.
+-- buffer.
 use mathlib.Core.Path.{_≡_, sym, ap, _∙_}
 use mathlib.Core.List.{List}
 use Prim.Native.Nat.{ℕ}
@@ -7,7 +7,7 @@ use contract.Lifetimes.{Lfts}
 use denote.Ref.{now}
 use borrow.Fn.Kinds.{Dens, resT, endedOf}
 use denote.Triple.Clauses.{AtExit}
-use Rattle.matrix.specs.Laid.{laid}
+use Rattle.lists.specs.Laid.{laid}
 use Rattle.report_text.specs.Report.{reportOf, Reported}
 use Rattle.report_text.proofs.class_of.Kinds as class-kinds
 use Rattle.report_text.proofs.class_of.Reads as class-reads

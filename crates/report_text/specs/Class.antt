@@ -1,4 +1,4 @@
--- The class of a pair, from the sizes of its stated and its refined set. Assumes nothing.
+-- The class of a pair, from the sizes of its stated and its refined set.
 use Prim.Native.Nat.{ℕ}
 use mathlib.Core.Bool.{cond}
 use lib.Dec.{eqb, ltb}

@@ -1,4 +1,6 @@
 pub mod Class
+pub mod Rule
 pub mod Words
 pub mod Report
+pub mod Letters
 pub mod Inner

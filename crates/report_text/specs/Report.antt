@@ -1,4 +1,4 @@
--- The report of a scene, as bytes. Assumes nothing.
+-- The report of a scene, as bytes.
 use mathlib.Core.Path.{_≡_}
 use Prim.Native.Nat.{ℕ, zero, suc, _*_, _-_}
 use mathlib.Core.Bool.{cond}
@@ -6,13 +6,15 @@ use mathlib.Core.List.{List, [], _∷_, _++_}
 use lib.Dec.{ltb, leb}
 use lib.ListN.{length, getD}
 use Rattle.relation.specs.Sets.{size}
-use Rattle.matrix.specs.Cells.{cell, row, column, grid}
-use Rattle.matrix.specs.Laid.{laid}
-use Rattle.refinement.specs.Outcome as refinement
+use Rattle.matrix.specs.Cells.{cell, row, column}
+use Rattle.lists.specs.Laid.{laid}
+use Rattle.answer.specs.Answer.{Answer}
+use Rattle.answer.specs.Ending.{Ending, accepted, refused}
 use Rattle.refinement.specs.Refine.{refine}
-use Rattle.scene.specs.Format.{lentIdentifiers, lentCells}
-use Rattle.scene.specs.Statements.{regions, statedCell}
-use Rattle.scene.specs.Reading.{Outcome, accepted, refusedAt, readOf}
+use Rattle.filing.specs.Said.{Said, regions}
+use Rattle.filing.specs.Stated.{cellsOf}
+use Rattle.scene.specs.Reading.{readScene}
+use Rattle.scene.specs.Reads.{startingCell}
 use Rattle.text.specs.Decimal.{decimal}
 use Rattle.text.specs.Line.{line}
 use Rattle.report_text.specs.Class.{classOf}
@@ -36,7 +38,11 @@ setsLine first second stated refined =
 
 -- ---- pairs
 
--- the line of the regions at places i and j
+-- the letter of the regions at places i and j
+abbrev pub letter : ℕ → List ℕ → List ℕ → ℕ → ℕ → ℕ
+letter n stated network i j = classOf (size (cell n stated i j)) (size (cell n network i j))
+
+-- their line
 abbrev pub pairLine : ℕ → List ℕ → List ℕ → List ℕ → ℕ → ℕ → List ℕ
 pairLine n identifiers stated network i j =
     setsLine (getD identifiers i 0) (getD identifiers j 0) (cell n stated i j) (cell n network i j)
@@ -62,24 +68,29 @@ namedBy number = number - 20
 abbrev pub nameOf : List ℕ → ℕ → ℕ → ℕ → ℕ
 nameOf identifiers number k place = cond (leb k (namedBy number)) (getD identifiers place 0) 0
 
--- the report of a refined matrix
-abbrev pub refinedReport : ℕ → List ℕ → List ℕ → refinement.Outcome → List ℕ
-refinedReport n identifiers stated (refinement.accepted count network) =
-    acceptedLine n count ++ pairLines (n * n) n identifiers stated network
-refinedReport n identifiers stated (refinement.refused number first second third count) =
-    refusalLine number (nameOf identifiers number 1 first) (nameOf identifiers number 2 second) (nameOf identifiers number 3 third)
+-- the line of a refused matrix, by its numbers
+abbrev pub answerLine : List ℕ → Answer → List ℕ
+answerLine identifiers a =
+    refusalLine (a .number) (nameOf identifiers (a .number) 1 (a .first)) (nameOf identifiers (a .number) 2 (a .second))
+    (nameOf identifiers (a .number) 3 (a .third))
 
--- the report of a reading
-abbrev pub readReport : Outcome → List ℕ
-readReport (accepted said) =
+-- the report of a refined matrix
+abbrev pub refinedReport : ℕ → List ℕ → List ℕ → Ending (List ℕ) → List ℕ
+refinedReport n identifiers stated (accepted network count) =
+    acceptedLine n count ++ pairLines (n * n) n identifiers stated network
+refinedReport n identifiers stated (refused numbers) = answerLine identifiers numbers
+
+-- the report of a reading; a refused one names an offset
+abbrev pub readReport : Ending Said → List ℕ
+readReport (accepted said count) =
     let n : ℕ = regions said in
-    let stated : List ℕ = grid n (statedCell (said .statements)) in
+    let stated : List ℕ = cellsOf startingCell said in
     refinedReport n (said .identifiers) stated (refine n stated)
-readReport (refusedAt number place) = refusalLine number place 0 0
+readReport (refused numbers) = refusalLine (numbers .number) (numbers .first) 0 0
 
 -- the report of a scene
 unfoldable pub reportOf : List ℕ → List ℕ
-reportOf scene = readReport (readOf scene lentIdentifiers lentCells)
+reportOf scene = readReport (readScene scene)
 
 -- what `report` promises: how long the report is, and that it stands in front of the buffer, whose rest is untouched
 pub record Reported (scene buffer buffer′ : List ℕ) (count : ℕ) : Type 0 where

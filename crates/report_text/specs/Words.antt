@@ -1,4 +1,4 @@
--- The words that begin a report, as bytes. Assumes nothing.
+-- The words that begin a report, as bytes.
 use Prim.Native.Nat.{ℕ}
 use mathlib.Core.List.{List, [], _∷_}
 

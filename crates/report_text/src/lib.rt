@@ -1,18 +1,23 @@
 // The report of a scene as text: a line for each pair of regions, or one line for a refusal.
 mod lines;
 
+use filing::LENT_CELLS;
+use filing::LENT_IDENTIFIERS;
 use lines::put_accepted;
 use lines::put_contradiction;
 use lines::put_pairs;
 use lines::put_refusal;
 use network::Verdict;
 use relation::RelationSet;
+use scene::Reading;
+use scene::format::MOST_BYTES;
 ghost use mathlib.Core.Path.{_≡_};
 ghost use Rattle.relation.specs.Sets.{size};
+ghost use Rattle.matrix.specs.Square.{Square};
 ghost use Rattle.refinement.specs.Refine.{refine};
 ghost use Rattle.report_text.specs.Class.{classOf};
 ghost use Rattle.report_text.specs.Report.{refinedReport, Reported};
-ghost use Rattle.report_text.specs.Inner.{Stated, Reports};
+ghost use Rattle.report_text.specs.Inner.{Reports};
 
 // The class of a pair: O where one relation was stated, D where one is left of more, E where fewer are left, S where all
 // that were stated are left, U where nothing is known.
@@ -38,11 +43,11 @@ pub fn class_of(stated: RelationSet, refined: RelationSet) -> u8
 
 // The report of n regions with the cells that were stated of them.
 fn put_refined(buffer: &mut [u8], n: usize, identifiers: &[u32], stated: &[u8]) -> usize
-    requires { ⌜ Stated n (now stated) ⌝ }
+    requires { ⌜ Square n (now stated) ⌝ }
     ensures { λ r. ⌜ Reports (refinedReport n (now (identifiers .entry)) (now (stated .entry)) (refine n (now (stated .entry)))) (now (buffer .entry)) (now (buffer .exit)) r ⌝ }
 {
-    let mut first = [0u8; 4096];
-    let mut second = [0u8; 4096];
+    let mut first = [0u8; LENT_CELLS];
+    let mut second = [0u8; LENT_CELLS];
     let verdict = network::refine(n, stated, &mut first, &mut second);
     match verdict {
         Verdict::Accepted {
@@ -70,12 +75,14 @@ fn put_refined(buffer: &mut [u8], n: usize, identifiers: &[u32], stated: &[u8]) 
 pub fn report(scene: &[u8], buffer: &mut [u8; 131072]) -> usize
     ensures { λ r. ⌜ Reported (now (scene .entry)) (now (buffer .entry)) (now (buffer .exit)) r ⌝ }
 {
-    let mut identifiers = [0u32; 64];
-    let mut stated = [0u8; 4096];
-    let numbers = numbers::of_reading(scene::read(scene, &mut identifiers, &mut stated));
-    if numbers.number == 0 {
-        let n = numbers.count;
-        return put_refined(buffer, n, &identifiers, &stated[..n * n]);
+    let mut identifiers = [0u32; LENT_IDENTIFIERS];
+    let mut stated = [0u8; LENT_CELLS];
+    match scene::read(scene, &mut identifiers, &mut stated) {
+        Reading::Accepted(n) => put_refined(buffer, n, &identifiers, &stated[..n * n]),
+        Reading::WrongLength => put_refusal(buffer, 2, 0, 0, 0),
+        Reading::TooLong => put_refusal(buffer, 3, MOST_BYTES, 0, 0),
+        Reading::Refused(refusal, offset) => {
+            put_refusal(buffer, refusal.number() as usize, offset, 0, 0)
+        }
     }
-    put_refusal(buffer, numbers.number as usize, numbers.first, 0, 0)
 }

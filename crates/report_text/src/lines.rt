@@ -3,28 +3,16 @@ use crate::class_of;
 use network::Contradiction;
 use region::Identifier;
 use region::Place;
+use region::identifier_at;
 use relation::RelationSet;
-ghost use mathlib.Core.Path.{_≡_};
 ghost use mathlib.Core.List.{_∷_};
 ghost use Prim.Native.Nat.{_*_, _<_};
-ghost use lib.ListN.{getD};
 ghost use Rattle.text.specs.Decimal.{decimal};
 ghost use Rattle.text.specs.Put.{Adds};
 ghost use Rattle.network.specs.Numbers.{answerOf};
 ghost use Rattle.network.specs.declared.Verdict.the-variants.{Refused};
-ghost use Rattle.report_text.specs.Report.{acceptedLine, refusalLine, setsLine, cellLine, pairLines};
-ghost use Rattle.report_text.specs.Inner.{answerLine, Paired};
-
-// The identifier of the region at a place.
-fn identifier_at(identifiers: &[u32], place: Place) -> Identifier
-    ensures { λ r. ⌜ r .0 ≡ getD (now (identifiers .entry)) (place .0) 0 ⌝ }
-{
-    let at = place.0;
-    if at < identifiers.len() {
-        return Identifier(identifiers[at]);
-    }
-    Identifier(0)
-}
+ghost use Rattle.report_text.specs.Report.{acceptedLine, refusalLine, answerLine, setsLine, cellLine, pairLines};
+ghost use Rattle.report_text.specs.Inner.{Paired};
 
 // A space and a number.
 fn put_field(buffer: &mut [u8], at: usize, number: usize) -> usize

@@ -1,5 +1,5 @@
 -- Every statement of an accepted scene is filed under the regions that it names, and none is lost: cell (i, j) is the universal set
--- intersected with the sets of exactly the statements from identifier i to identifier j. Assumes nothing.
+-- intersected with the sets of exactly the statements from identifier i to identifier j.
 use mathlib.Core.Path.{_≡_, refl, sym, ap, _∙_}
 use mathlib.Core.Bool.{Bool, true, false, cond, _&&_}
 use mathlib.Core.List.{List, [], _∷_}
@@ -11,49 +11,25 @@ use borrow.Author.Tests.{eq-eqb, ne-eqb}
 use Rattle.region.specs.Lookup.{identifier}
 use Rattle.region.specs.declared.Place.{Place}
 use Rattle.region.specs.declared.Found.the-variants.{At}
-use Rattle.region.proofs.Splits.{split-eq, split-lt}
-use Rattle.region.proofs.LookupLaws.{lookup-found}
+use Rattle.lists.proofs.Splits.{split-eq, split-lt}
+use Rattle.filing.proofs.PlaceLaws.{place-found}
+use Rattle.filing.proofs.StatedLaws.{stated-none, stated-more, stated-within}
 use Rattle.relation.specs.Sets.{Within, universal, intersect}
-use Rattle.relation.proofs.Within.{intersect-comm, intersect-assoc, within-refl, within-trans, within-left, within-right}
-use Rattle.answer.specs.Bytes.{numberAt}
+use Rattle.relation.proofs.Within.{intersect-comm, intersect-assoc, within-refl, within-trans, within-right}
+use Rattle.lists.specs.BigEndian.{numberAt}
 use Rattle.scene.specs.Format.{regionKind, statementKind, endKind, lengthOf}
-use Rattle.scene.specs.Statements.{Said, Statement, regions, statedCell}
-use Rattle.scene.specs.Record.{Judged, declares, states, ends, refused, recordAt}
-use Rattle.scene.specs.Reading.{accepted, follows, readFrom, readOf, silent, declared, stated}
+use Rattle.filing.specs.Said.{Said, regions, silent, declared, statement, stated}
+use Rattle.filing.specs.Stated.{statedCell}
+use Rattle.scene.specs.Record.{Judged, declares, states, ends, fails, recordAt}
+use Rattle.scene.specs.Reading.{acceptedSaid, follows, readFrom, readScene}
+use Rattle.scene.specs.Reads.{startingCell}
+use Rattle.scene.specs.Different.{Different}
+use Rattle.scene.specs.Spoken.{Spoken, spokenAt, spokenFrom, spoken, among}
 use Rattle.scene.proofs.Reasons.{Looks, States, declares-why, states-why, ends-why}
-use Rattle.scene.proofs.Endings.{accepts}
-use Rattle.scene.proofs.Different.{Different, accepted-different}
+use Rattle.scene.proofs.Endings.{accepted-records}
+use Rattle.scene.proofs.Different.{accepted-different}
 
--- a statement as it stands in the file: two identifiers and a set
-pub record Spoken : Type 0 where
-  pub from : ℕ
-  pub to : ℕ
-  pub set : ℕ
-
--- the statement record at a place
-abbrev pub spokenAt : List ℕ → ℕ → Spoken
-spokenAt scene at = record { from = numberAt scene (at + 1); to = numberAt scene (at + 5); set = getD scene (at + 9) 0 }
-
--- what a record adds to the statements behind it, by its kind: a statement, nothing for a region; any other kind ends the list
-abbrev pub adds : List ℕ → ℕ → (ℕ → List Spoken) → List Spoken
-adds scene at rest =
-    cond (eqb (getD scene at 0) regionKind) (rest (at + lengthOf regionKind))
-    (cond (eqb (getD scene at 0) statementKind) (spokenAt scene at ∷ rest (at + lengthOf statementKind)) [])
-
--- the statement records of a scene from a place on, in the order of the file, as they stand there
-unfoldable pub spokenFrom : ℕ → List ℕ → ℕ → List Spoken
-spokenFrom zero scene at = []
-spokenFrom (suc more) scene at = adds scene at (spokenFrom more scene)
-
-unfoldable pub spoken : List ℕ → List Spoken
-spoken scene = spokenFrom (suc (length scene)) scene 0
-
--- the universal set intersected with the sets of the statements from one identifier to another
-unfoldable pub among : List Spoken → ℕ → ℕ → ℕ
-among [] a b = universal
-among (s ∷ rest) a b = cond (eqb (s .from) a && eqb (s .to) b) (intersect (s .set) (among rest a b)) (among rest a b)
-
--- ---- neither side has more than the universal set
+-- ---- statements narrow the universal set
 
 cond-within : (b : Bool) (s x : ℕ) → Within x universal → Within (cond b (intersect s x) x) universal
 cond-within true s x w = within-trans (within-right s x) w
@@ -63,15 +39,6 @@ among-within : (l : List Spoken) (a b : ℕ) → Within (among l a b) universal
 unfolding among
 among-within [] a b = within-refl universal
 among-within (s ∷ rest) a b = cond-within (eqb (s .from) a && eqb (s .to) b) (s .set) (among rest a b) (among-within rest a b)
-
-narrowed-within : (b : Bool) (x s : ℕ) → Within x universal → Within (cond b (intersect x s) x) universal
-narrowed-within true x s w = within-trans (within-left x s) w
-narrowed-within false x s w = w
-
-pub stated-within : (l : List Statement) (i j : ℕ) → Within (statedCell l i j) universal
-unfolding statedCell
-stated-within [] i j = within-refl universal
-stated-within (s ∷ l) i j = narrowed-within (eqb (s .from) i && eqb (s .to) j) (statedCell l i j) (s .set) (stated-within l i j)
 
 -- ---- places and identifiers
 
@@ -88,19 +55,19 @@ extends-declared said final name x =
       same = λ p h. x .same p (omega (arith, one)) ∙ List·getD-append (said .identifiers) (name ∷ []) 0 p h;
     }
 
-extends-from : (scene : List ℕ) (more at : ℕ) (said final : Said) → readFrom more scene at said ≡ accepted final → Extends said final
+extends-from : (scene : List ℕ) (more at : ℕ) (said final : Said) → readFrom more scene at said ≡ acceptedSaid final → Extends said final
 unfolding readFrom
 extends-from scene zero at said final e = let z : _≡_ {A = ℕ} 0 1 = cc in absurd (omega arith)
 extends-from scene (suc more) at said final e =
-    by-record (recordAt scene (said .identifiers) at) e (λ next then q. extends-from scene more next then final q)
+    by-record (recordAt scene said at) e (λ next then q. extends-from scene more next then final q)
   where
-    by-record : (j : Judged) → follows (readFrom more scene) at said j ≡ accepted final
-        → ((next : ℕ) (then : Said) → readFrom more scene next then ≡ accepted final → Extends then final) → Extends said final
+    by-record : (j : Judged) → follows (readFrom more scene) at said j ≡ acceptedSaid final
+        → ((next : ℕ) (then : Said) → readFrom more scene next then ≡ acceptedSaid final → Extends then final) → Extends said final
     by-record (declares name) e later = extends-declared said final name (later (at + lengthOf regionKind) (declared said name) e)
     by-record (states a b set) e later =
         let x = later (at + lengthOf statementKind) (stated said a b set) e in record { long = x .long; same = x .same }
     by-record ends e later = let q : said ≡ final = cc in rw q (record { long = omega arith; same = λ p h. refl })
-    by-record (refused number place) e later = let z : _≡_ {A = ℕ} 0 1 = cc in absurd (omega arith)
+    by-record (fails number offset) e later = let z : _≡_ {A = ℕ} 0 1 = cc in absurd (omega arith)
 
 -- a place is i where its identifier is that of i
 same-test : (l : List ℕ) (p i name : ℕ) → Different l → p < length l → i < length l → getD l p 0 ≡ name → eqb p i ≡ eqb name (getD l i 0)
@@ -144,26 +111,21 @@ among-more : (s : Spoken) (rest : List Spoken) (a b set : ℕ) (from to : Bool) 
 unfolding among
 among-more s rest a b set from to f t e = rw (f, t, ← e)
 
-stated-more : (s : Statement) (l : List Statement) (i j : ℕ)
-    → statedCell (s ∷ l) i j ≡ cond (eqb (s .from) i && eqb (s .to) j) (intersect (statedCell l i j) (s .set)) (statedCell l i j)
-unfolding statedCell
-stated-more s l i j = refl
-
 module _ (scene : List ℕ) (final : Said) (different : Different (final .identifiers)) (i j : ℕ) (hi : i < regions final)
     (hj : j < regions final) where
   -- the test of a statement by place is its test by identifier
-  test-is : (said : Said) (a : Place) (from k : ℕ) → Extends said final → Looks scene (said .identifiers) from (At a) → k < regions final
+  test-is : (said : Said) (a : Place) (from k : ℕ) → Extends said final → Looks scene said from (At a) → k < regions final
       → eqb (a .0) k ≡ eqb (numberAt scene from) (getD (final .identifiers) k 0)
   test-is said a from k x f hk =
-      let h = lookup-found (said .identifiers) (length (said .identifiers)) (identifier (numberAt scene from)) (a .0) (f .finds) in
+      let h = place-found said (identifier (numberAt scene from)) a (f .finds) in
       same-test (final .identifiers) (a .0) k (numberAt scene from) different (omega (arith, x .long, h .inside)) hk
       (x .same (a .0) (h .inside) ∙ h .entry)
 
   -- what is still to be read narrows the cell by just the statements between the two identifiers
   abbrev Filed : ℕ → ℕ → Said → Type 0
   Filed more at said =
-      statedCell (final .statements) i j
-      ≡ intersect (statedCell (said .statements) i j)
+      statedCell startingCell (final .statements) i j
+      ≡ intersect (statedCell startingCell (said .statements) i j)
       (among (spokenFrom more scene at) (getD (final .identifiers) i 0) (getD (final .identifiers) j 0))
 
   module _ (more at : ℕ) (said : Said) where
@@ -171,16 +133,16 @@ module _ (scene : List ℕ) (final : Said) (different : Different (final .identi
         → Filed more (at + lengthOf regionKind) (declared said name) → Filed (suc more) at said
     filed-region name k f = rw (spoken-region scene more at k) f
 
-    filed-statement : (a b : Place) (set : ℕ) → States scene (said .identifiers) at a b set → Extends said final
+    filed-statement : (a b : Place) (set : ℕ) → States scene said at a b set → Extends said final
         → Filed more (at + lengthOf statementKind) (stated said a b set) → Filed (suc more) at said
     filed-statement a b set d x f =
-        let cell : ℕ = statedCell (said .statements) i j in
+        let cell : ℕ = statedCell startingCell (said .statements) i j in
         let rest : List Spoken = spokenFrom more scene (at + lengthOf statementKind) in
         let first : ℕ = getD (final .identifiers) i 0 in
         let second : ℕ = getD (final .identifiers) j 0 in
         f
         ∙ ap (λ (c : ℕ). intersect c (among rest first second))
-        (stated-more (record { from = a .0; to = b .0; set = set }) (said .statements) i j)
+        (stated-more startingCell (statement a b set) (said .statements) i j)
         ∙ moved (eqb (a .0) i && eqb (b .0) j) cell set (among rest first second)
         ∙ ap (λ (c : ℕ). intersect cell c)
         (among-more (spokenAt scene at) rest first second set (eqb (a .0) i) (eqb (b .0) j) (test-is said a (at + 1) i x (d .from-is) hi)
@@ -190,37 +152,36 @@ module _ (scene : List ℕ) (final : Said) (different : Different (final .identi
 
     filed-end : getD scene at 0 ≡ endKind → said ≡ final → Filed (suc more) at said
     unfolding among
-    filed-end k e = rw (spoken-end scene more at k, e) (sym (stated-within (final .statements) i j .meets))
+    filed-end k e = rw (spoken-end scene more at k, e) (sym (stated-within startingCell (final .statements) i j .meets))
 
-  filed-from : (more at : ℕ) (said : Said) → readFrom more scene at said ≡ accepted final → Filed more at said
+  filed-from : (more at : ℕ) (said : Said) → readFrom more scene at said ≡ acceptedSaid final → Filed more at said
   unfolding readFrom
   filed-from zero at said e = let z : _≡_ {A = ℕ} 0 1 = cc in absurd (omega arith)
   filed-from (suc more) at said e =
-      by-record (recordAt scene (said .identifiers) at) refl e (λ next then q. filed-from more next then q)
+      by-record (recordAt scene said at) refl e (λ next then q. filed-from more next then q)
     where
-      by-record : (k : Judged) → recordAt scene (said .identifiers) at ≡ k → follows (readFrom more scene) at said k ≡ accepted final
-          → ((next : ℕ) (then : Said) → readFrom more scene next then ≡ accepted final → Filed more next then) → Filed (suc more) at said
+      by-record : (k : Judged) → recordAt scene said at ≡ k → follows (readFrom more scene) at said k ≡ acceptedSaid final
+          → ((next : ℕ) (then : Said) → readFrom more scene next then ≡ acceptedSaid final → Filed more next then) → Filed (suc more) at said
       by-record (declares name) r e later =
-          filed-region more at said name (declares-why scene (said .identifiers) at r .region .whole .kind-is)
+          filed-region more at said name (declares-why scene said at r .region .whole .kind-is)
           (later (at + lengthOf regionKind) (declared said name) e)
       by-record (states a b set) r e later =
           let x = extends-from scene more (at + lengthOf statementKind) (stated said a b set) final e in
-          filed-statement more at said a b set (states-why scene (said .identifiers) at r) (record { long = x .long; same = x .same })
+          filed-statement more at said a b set (states-why scene said at r) (record { long = x .long; same = x .same })
           (later (at + lengthOf statementKind) (stated said a b set) e)
       by-record ends r e later =
-          filed-end more at said (ends-why scene (said .identifiers) at r .whole .kind-is) (let q : said ≡ final = cc in q)
-      by-record (refused number place) r e later = let z : _≡_ {A = ℕ} 0 1 = cc in absurd (omega arith)
+          filed-end more at said (ends-why scene said at r .whole .kind-is) (let q : said ≡ final = cc in q)
+      by-record (fails number offset) r e later = let z : _≡_ {A = ℕ} 0 1 = cc in absurd (omega arith)
 
 -- cell (i, j) of an accepted scene, by the statements as they stand in the file
-pub filed : (scene : List ℕ) (identifiers cells : ℕ) (said : Said) → readOf scene identifiers cells ≡ accepted said
-    → (i j : ℕ) → i < regions said → j < regions said
-    → statedCell (said .statements) i j ≡ among (spoken scene) (getD (said .identifiers) i 0) (getD (said .identifiers) j 0)
-unfolding spoken statedCell
-filed scene identifiers cells said e i j hi hj =
+pub filed : (scene : List ℕ) {said : Said} → readScene scene ≡ acceptedSaid said → (i j : ℕ) → i < regions said → j < regions said
+    → statedCell startingCell (said .statements) i j ≡ among (spoken scene) (getD (said .identifiers) i 0) (getD (said .identifiers) j 0)
+unfolding spoken
+filed scene {said} e i j hi hj =
     let all : List Spoken = spokenFrom (suc (length scene)) scene 0 in
     let first : ℕ = getD (said .identifiers) i 0 in
     let second : ℕ = getD (said .identifiers) j 0 in
-    filed-from scene said (accepted-different scene identifiers cells said e) i j hi hj (suc (length scene)) 0 silent
-    (accepts scene identifiers cells said e .records-say)
+    filed-from scene said (accepted-different scene e) i j hi hj (suc (length scene)) 0 silent (accepted-records scene e)
+    ∙ ap (λ (c : ℕ). intersect c (among all first second)) (stated-none startingCell i j)
     ∙ intersect-comm universal (among all first second)
     ∙ among-within all first second .meets

@@ -1,4 +1,4 @@
--- The numbers of refused records: from 1 to 11, but not 2, a wrong length, nor 3, the limit. Assumes nothing.
+-- The numbers of refused records: from 1 to 11, but not 2, a wrong length, nor 3, the limit.
 use mathlib.Core.Path.{_≡_}
 use mathlib.Core.Bool.{false}
 use Prim.Native.Nat.{ℕ, _≤_, _<_}
@@ -16,11 +16,11 @@ pub record Numbered (number : ℕ) : Type 0 where
   pub most : number ≤ 11
 
 -- 1
-pub numbered-no-region : Numbered 1
+numbered-no-region : Numbered 1
 numbered-no-region = record { positive = omega arith; no-length = λ e. omega arith; no-limit = λ e. omega arith; most = omega arith }
 
 -- 4 to 11
-pub numbered-from : {number : ℕ} → 4 ≤ number → number ≤ 11 → Numbered number
+numbered-from : {number : ℕ} → 4 ≤ number → number ≤ 11 → Numbered number
 numbered-from l m = record { positive = omega arith; no-length = λ e. omega arith; no-limit = λ e. omega arith; most = m }
 
 pub numbered : (refusal : Refusal) → Numbered (numberOf refusal)

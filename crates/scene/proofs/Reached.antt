@@ -1,63 +1,55 @@
--- How far a reading comes: the places that its records reach with what they have said, and that a reading ends where a reached
--- record ends or refuses it, and nowhere else. Assumes nothing.
+-- A reading ends where a reached record ends or refuses it, and nowhere else.
 use mathlib.Core.Path.{_≡_, refl, sym, ap, _∙_}
 use mathlib.Core.List.{List, [], _∷_}
 use Prim.Native.Nat.{ℕ, zero, suc, _+_, _≤_, _<_}
 use native.Mathlib.Omega.{arith}
 use lib.ListN.{length, length-append}
-use Rattle.region.specs.declared.Place.{Place}
-use Rattle.scene.specs.Format.{mostRegions, regionKind, statementKind, lengthOf}
-use Rattle.scene.specs.Statements.{Said, regions}
-use Rattle.scene.specs.Record.{Judged, declares, states, ends, refused, recordAt}
-use Rattle.scene.specs.Reading.{Outcome, accepted, refusedAt, follows, readFrom, records, silent, declared, stated}
+use Rattle.matrix.specs.Square.{mostRegions}
+use Rattle.answer.specs.Ending.{Ending}
+use Rattle.filing.specs.Said.{Said, regions, silent, declared, stated}
+use Rattle.scene.specs.Format.{regionKind, statementKind, lengthOf}
+use Rattle.scene.specs.Record.{Judged, declares, states, ends, fails, recordAt}
+use Rattle.scene.specs.Reading.{acceptedSaid, refusedAt, follows, readFrom, records}
+use Rattle.scene.specs.Reached.{Reached, start, region, statement}
 use Rattle.scene.proofs.Reasons.{no-byte, decides, some-length, declares-why, states-why}
 
--- the records before the place are good, and say so much
-pub data Reached (scene : List ℕ) : ℕ → Said → Type 0 where
-  start : Reached scene 0 silent
-  region : {at : ℕ} {said : Said} (name : ℕ) → Reached scene at said → recordAt scene (said .identifiers) at ≡ declares name
-      → Reached scene (at + lengthOf regionKind) (declared said name)
-  statement : {at : ℕ} {said : Said} (a b : Place) (set : ℕ) → Reached scene at said
-      → recordAt scene (said .identifiers) at ≡ states a b set
-      → Reached scene (at + lengthOf statementKind) (stated said a b set)
-
 -- a reached record ends the reading
-pub data Ended (scene : List ℕ) : Outcome → Type 0 where
-  at-end : (at : ℕ) (said : Said) → Reached scene at said → recordAt scene (said .identifiers) at ≡ ends → Ended scene (accepted said)
-  at-refusal : (at : ℕ) (said : Said) (number place : ℕ) → Reached scene at said
-      → recordAt scene (said .identifiers) at ≡ refused number place → Ended scene (refusedAt number place)
+pub data Ended (scene : List ℕ) : Ending Said → Type 0 where
+  at-end : (at : ℕ) (said : Said) → Reached scene at said → recordAt scene said at ≡ ends → Ended scene (acceptedSaid said)
+  at-refusal : (at : ℕ) (said : Said) (number offset : ℕ) → Reached scene at said
+      → recordAt scene said at ≡ fails number offset → Ended scene (refusedAt number offset)
 
 module _ (scene : List ℕ) where
   pub reached-within : {at : ℕ} {said : Said} → Reached scene at said → at ≤ length scene
   reached-within start = omega arith
-  reached-within (region {at} {said} name r e) = declares-why scene (said .identifiers) at e .region .whole .fits
-  reached-within (statement {at} {said} a b set r e) = states-why scene (said .identifiers) at e .whole .fits
+  reached-within (region {at} {said} name r e) = declares-why scene said at e .region .whole .fits
+  reached-within (statement {at} {said} a b set r e) = states-why scene said at e .whole .fits
 
   pub reached-few : {at : ℕ} {said : Said} → Reached scene at said → regions said ≤ mostRegions
   reached-few start = omega arith
   reached-few (region {at} {said} name r e) =
-      omega (arith, length-append (said .identifiers) (name ∷ []), declares-why scene (said .identifiers) at e .room)
+      omega (arith, length-append (said .identifiers) (name ∷ []), declares-why scene said at e .room)
   reached-few (statement a b set r e) = reached-few r
 
-  -- what follows a record is the same where the readings of all later places are
-  follows-same : (f g : ℕ → Said → Outcome) (at : ℕ) (said : Said) (j : Judged) → ((k : ℕ) (s : Said) → at < k → f k s ≡ g k s)
+  -- what follows a record is the same where the readings of all later offsets are
+  follows-same : (f g : ℕ → Said → Ending Said) (at : ℕ) (said : Said) (j : Judged) → ((k : ℕ) (s : Said) → at < k → f k s ≡ g k s)
       → follows f at said j ≡ follows g at said j
   follows-same f g at said (declares name) same =
       same (at + lengthOf regionKind) (declared said name) (omega (arith, some-length regionKind))
   follows-same f g at said (states a b set) same =
       same (at + lengthOf statementKind) (stated said a b set) (omega (arith, some-length statementKind))
   follows-same f g at said ends same = refl
-  follows-same f g at said (refused number place) same = refl
+  follows-same f g at said (fails number offset) same = refl
 
   -- the limit on records is never what ends a reading: any two that are large enough give the same
   pub enough-records : (more most at : ℕ) (said : Said) → length scene < more + at → length scene < most + at
       → readFrom more scene at said ≡ readFrom most scene at said
   unfolding readFrom
   enough-records zero zero at said h k = refl
-  enough-records zero (suc most) at said h k = rw (decides scene (said .identifiers) at (no-byte (omega arith)))
-  enough-records (suc more) zero at said h k = rw (decides scene (said .identifiers) at (no-byte (omega arith)))
+  enough-records zero (suc most) at said h k = rw (decides scene said at (no-byte (omega arith)))
+  enough-records (suc more) zero at said h k = rw (decides scene said at (no-byte (omega arith)))
   enough-records (suc more) (suc most) at said h k =
-      follows-same (readFrom more scene) (readFrom most scene) at said (recordAt scene (said .identifiers) at)
+      follows-same (readFrom more scene) (readFrom most scene) at said (recordAt scene said at)
       (λ next then l. enough-records more most next then (omega arith) (omega arith))
 
   -- so no larger limit than that of the definition gives another ending
@@ -65,13 +57,13 @@ module _ (scene : List ℕ) where
   any-limit more h = enough-records more (suc (length scene)) 0 silent (omega arith) (omega arith)
 
   -- a record is read, and then what follows it
-  one-read : (more at : ℕ) (said : Said) (j : Judged) → recordAt scene (said .identifiers) at ≡ j
+  one-read : (more at : ℕ) (said : Said) (j : Judged) → recordAt scene said at ≡ j
       → readFrom (suc more) scene at said ≡ follows (readFrom more scene) at said j
   unfolding readFrom
   one-read more at said j e = ap (λ (k : Judged). follows (readFrom more scene) at said k) e
 
-  -- reading on from a reached place gives the ending of the whole
-  pub reads-on : {at : ℕ} {said : Said} → Reached scene at said → (more : ℕ) → length scene < more + at
+  -- reading on from a reached offset gives the ending of the whole
+  reads-on : {at : ℕ} {said : Said} → Reached scene at said → (more : ℕ) → length scene < more + at
       → readFrom more scene at said ≡ records scene
   reads-on start more h = any-limit more (omega arith)
   reads-on (region {at} {said} name r e) more h =
@@ -85,23 +77,23 @@ module _ (scene : List ℕ) where
       ∙ sym (one-read before at said (states a b set) e)
       ∙ reads-on r (suc before) (omega arith)
 
-  ends-as : {at : ℕ} {said : Said} {j : Judged} → Reached scene at said → recordAt scene (said .identifiers) at ≡ j
+  ends-as : {at : ℕ} {said : Said} {j : Judged} → Reached scene at said → recordAt scene said at ≡ j
       → records scene ≡ follows (readFrom (suc (length scene)) scene) at said j
   ends-as {at} {said} {j} r e =
       sym (reads-on r (suc (suc (length scene))) (omega arith)) ∙ one-read (suc (length scene)) at said j e
 
   -- where a reached record ends or refuses the reading, the scene is read so
-  pub ended-so : {outcome : Outcome} → Ended scene outcome → records scene ≡ outcome
+  pub ended-so : {ending : Ending Said} → Ended scene ending → records scene ≡ ending
   ended-so (at-end at said r e) = ends-as r e
-  ended-so (at-refusal at said number place r e) = ends-as r e
+  ended-so (at-refusal at said number offset r e) = ends-as r e
 
   ended-from : (more at : ℕ) (said : Said) → Reached scene at said → length scene < more + at → Ended scene (readFrom more scene at said)
   unfolding readFrom
   ended-from zero at said r h = absurd (omega (arith, reached-within r))
   ended-from (suc more) at said r h =
-      by-record (recordAt scene (said .identifiers) at) refl (λ next then q l. ended-from more next then q (omega arith))
+      by-record (recordAt scene said at) refl (λ next then q l. ended-from more next then q (omega arith))
     where
-      by-record : (j : Judged) → recordAt scene (said .identifiers) at ≡ j
+      by-record : (j : Judged) → recordAt scene said at ≡ j
           → ((next : ℕ) (then : Said) → Reached scene next then → at < next → Ended scene (readFrom more scene next then))
           → Ended scene (follows (readFrom more scene) at said j)
       by-record (declares name) e later =
@@ -109,7 +101,7 @@ module _ (scene : List ℕ) where
       by-record (states a b set) e later =
           later (at + lengthOf statementKind) (stated said a b set) (statement a b set r e) (omega (arith, some-length statementKind))
       by-record ends e later = at-end at said r e
-      by-record (refused number place) e later = at-refusal at said number place r e
+      by-record (fails number offset) e later = at-refusal at said number offset r e
 
   -- and every reading ends so
   pub ended : Ended scene (records scene)

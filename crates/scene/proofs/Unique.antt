@@ -1,4 +1,4 @@
--- No second answer meets the contracts of `Refusal::number`, `read` and `refused_record`. Assumes nothing.
+-- No second answer meets the contracts of `Refusal::number`, `read`, `refused_record` and `of_reading`.
 use mathlib.Core.Path.{_≡_, refl, sym, ap, _∙_}
 use Prim.Native.Nat.{ℕ}
 use mathlib.Core.List.{[], _∷_}
@@ -8,6 +8,8 @@ use denote.Ref.{now}
 use denote.Triple.Clauses.{AtExit}
 use borrow.Fn.Kinds.{Dens, resT, endedOf}
 use Rattle.answer.specs.Answer.{Answer}
+use Rattle.answer.proofs.Unique.{told-one}
+use Rattle.filing.proofs.Unique.{each-area}
 use Rattle.scene.specs.Numbers.{answerOf}
 use Rattle.scene.specs.declared.Reading.{Reading}
 use Rattle.scene.specs.declared.Reading.the-variants.{Accepted, WrongLength, TooLong, Refused}
@@ -19,6 +21,8 @@ use Rattle.scene.proofs.read.Kinds as read-kinds
 use Rattle.scene.proofs.read.Reads as read-reads
 use Rattle.scene.proofs.refused_record.Kinds as part-kinds
 use Rattle.scene.proofs.refused_record.Reads as part-reads
+use Rattle.scene.proofs.numbers.of_reading.Kinds as telling-kinds
+use Rattle.scene.proofs.numbers.of_reading.Reads as telling-reads
 
 pub number-unique : (κs : Lfts 0) (a : Dens κs number-kinds.ps) (r r' : resT number-kinds.r κs .Denot)
     (s s' : AtExit (endedOf 0 number-kinds.ps number-kinds.r) κs)
@@ -50,24 +54,24 @@ reading-of a =
     (a .number)
     WrongLength
 
-refused-back : (refusal : Refusal) (place : ℕ) → reading-of (answerOf (Refused refusal place)) ≡ Refused refusal place
+refused-back : (refusal : Refusal) (offset : ℕ) → reading-of (answerOf (Refused refusal offset)) ≡ Refused refusal offset
 unfolding reading-of
-refused-back NoRegion place = refl
-refused-back CutShort place = refl
-refused-back UnknownKind place = refl
-refused-back IdentifierZero place = refl
-refused-back DeclaredTwice place = refl
-refused-back TooManyRegions place = refl
-refused-back NotDeclared place = refl
-refused-back EmptySet place = refl
-refused-back BytesLeft place = refl
+refused-back NoRegion offset = refl
+refused-back CutShort offset = refl
+refused-back UnknownKind offset = refl
+refused-back IdentifierZero offset = refl
+refused-back DeclaredTwice offset = refl
+refused-back TooManyRegions offset = refl
+refused-back NotDeclared offset = refl
+refused-back EmptySet offset = refl
+refused-back BytesLeft offset = refl
 
 reading-back : (reading : Reading) → reading-of (answerOf reading) ≡ reading
 unfolding reading-of
 reading-back (Accepted regions) = refl
 reading-back WrongLength = refl
 reading-back TooLong = refl
-reading-back (Refused refusal place) = refused-back refusal place
+reading-back (Refused refusal offset) = refused-back refusal offset
 
 -- so two readings with the same answer are the same
 pub answer-tells : (reading other : Reading) → answerOf reading ≡ answerOf other → reading ≡ other
@@ -78,4 +82,9 @@ pub read-unique : (κs : Lfts 3) (a : Dens κs read-kinds.ps) (r r' : resT read-
     → read-reads.Post κs a r s → read-reads.Post κs a r' s'
     → (r ≡ r') × (now (s .1 .0) ≡ now (s' .1 .0)) × (now (s .1 .1 .0) ≡ now (s' .1 .1 .0))
 read-unique κs a r r' s s' p q =
-    (answer-tells r r' (p .answer ∙ sym (q .answer)), p .identifiers ∙ sym (q .identifiers), p .cells ∙ sym (q .cells))
+    let both = each-area (p .areas ∙ sym (q .areas)) in (answer-tells r r' (p .answer ∙ sym (q .answer)), both .0, both .1)
+
+pub of-reading-unique : (κs : Lfts 0) (a : Dens κs telling-kinds.ps) (r r' : resT telling-kinds.r κs .Denot)
+    (s s' : AtExit (endedOf 0 telling-kinds.ps telling-kinds.r) κs)
+    → telling-reads.Post κs a r s → telling-reads.Post κs a r' s' → r ≡ r'
+of-reading-unique κs a r r' s s' p q = told-one r r' _ p q

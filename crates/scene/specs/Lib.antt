@@ -1,8 +1,11 @@
 pub mod Format
-pub mod Statements
 pub mod Record
 pub mod Reading
 pub mod Numbers
 pub mod Reads
 pub mod Span
+pub mod Reached
+pub mod Different
+pub mod Spoken
+pub mod Alike
 pub mod Inner

@@ -1,4 +1,4 @@
--- Document 01's number and place of each answer of the reader. Assumes nothing.
+-- Document 01's number and offset of each answer of the reader.
 use Prim.Native.Nat.{ℕ}
 use Rattle.answer.specs.Answer.{Answer, accepts, refuses}
 use Rattle.scene.specs.Format.{mostBytes}
@@ -19,8 +19,9 @@ numberOf NotDeclared = 9
 numberOf EmptySet = 10
 numberOf BytesLeft = 11
 
+-- the numbers of an answer
 abbrev pub answerOf : Reading → Answer
 answerOf (Accepted regions) = accepts regions
 answerOf WrongLength = refuses 2 0
 answerOf TooLong = refuses 3 mostBytes
-answerOf (Refused refusal place) = refuses (numberOf refusal) place
+answerOf (Refused refusal offset) = refuses (numberOf refusal) offset

@@ -1,13 +1,7 @@
-// The scene file's format: kinds, lengths and limits.
+// The scene file's format: limit, kinds and lengths.
 
 // The most bytes that a scene may have.
 pub const MOST_BYTES: usize = 32768;
-
-// The most regions, and so the identifiers that are lent, and the length of a row while a scene is read.
-pub const MOST_REGIONS: usize = 64;
-
-// The cells that are lent.
-pub const LENT_CELLS: usize = 4096;
 
 // The kinds of record.
 pub const REGION: u8 = 1;

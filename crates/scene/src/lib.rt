@@ -1,19 +1,18 @@
 // Scene files: the reader, and the bytes of a refused record.
-mod areas;
 pub mod format;
+pub mod numbers;
 mod record;
 mod records;
 mod span;
 
-use areas::clear_identifiers;
-use format::LENT_CELLS;
+use filing::LENT_CELLS;
+use filing::LENT_IDENTIFIERS;
 use format::MOST_BYTES;
-use format::MOST_REGIONS;
 use records::read_records;
 use span::span_of;
 ghost use mathlib.Core.Path.{_≡_};
-ghost use Rattle.scene.specs.Format.{lentIdentifiers, lentCells};
-ghost use Rattle.scene.specs.Reading.{readOf};
+ghost use Rattle.filing.specs.Areas.{holding};
+ghost use Rattle.scene.specs.Reading.{readScene};
 ghost use Rattle.scene.specs.Numbers.{numberOf};
 ghost use Rattle.scene.specs.Reads.{Reads};
 ghost use Rattle.scene.specs.Span.{RefusedPart};
@@ -63,17 +62,13 @@ pub enum Reading {
 
 // Reads a scene into 64 identifiers and 4,096 cells: the first n identifiers, and the cells in rows of n.
 pub fn read(scene: &[u8], identifiers: &mut [u32], cells: &mut [u8]) -> Reading
-    ensures { λ r. ⌜ Reads (now (scene .entry)) (now (identifiers .entry)) (now (cells .entry)) (now (identifiers .exit)) (now (cells .exit)) r ⌝ }
+    ensures { λ r. ⌜ Reads (now (scene .entry)) (holding (now (identifiers .entry)) (now (cells .entry))) (holding (now (identifiers .exit)) (now (cells .exit))) r ⌝ }
 {
-    if identifiers.len() != MOST_REGIONS {
-        return Reading::WrongLength;
-    }
-    if cells.len() != LENT_CELLS {
+    if !filing::are_lent(identifiers, cells) {
         return Reading::WrongLength;
     }
     if MOST_BYTES < scene.len() {
-        clear_identifiers(identifiers);
-        matrix::fill(cells, 0);
+        filing::clear(identifiers, cells);
         return Reading::TooLong;
     }
     read_records(scene, identifiers, cells)
@@ -82,9 +77,9 @@ pub fn read(scene: &[u8], identifiers: &mut [u32], cells: &mut [u8]) -> Reading
 // The refused record's own bytes, as a part of the scene: its full length or what remains of it, one byte for an unknown kind,
 // everything left for bytes after the end; an empty part where no record is refused.
 pub fn refused_record(scene: &[u8]) -> &[u8]
-    ensures { λ r. ⌜ RefusedPart (now (scene .entry)) (readOf (now (scene .entry)) lentIdentifiers lentCells) (scene .entry .ptr) (now r) (r .ptr) ⌝ }
+    ensures { λ r. ⌜ RefusedPart (now (scene .entry)) (readScene (now (scene .entry))) (scene .entry .ptr) (now r) (r .ptr) ⌝ }
 {
-    let mut identifiers = [0u32; MOST_REGIONS];
+    let mut identifiers = [0u32; LENT_IDENTIFIERS];
     let mut cells = [0u8; LENT_CELLS];
     let span = span_of(scene, read(scene, &mut identifiers, &mut cells));
     let start = span.start;

@@ -1,21 +1,22 @@
-// One record of a scene, judged against the identifiers declared before it.
+// One record of a scene, judged against what was said before it.
 use crate::Refusal;
 use crate::format::END;
-use crate::format::MOST_REGIONS;
 use crate::format::REGION;
 use crate::format::REGION_BYTES;
 use crate::format::STATEMENT;
 use crate::format::STATEMENT_BYTES;
-use answer::number_at;
+use filing::place_of;
+use lists::number_at;
+use matrix::MOST_REGIONS;
 use region::Found;
 use region::Identifier;
 use region::Place;
-use region::lookup;
 use relation::RelationSet;
 ghost use mathlib.Core.Path.{_≡_};
 ghost use Prim.Native.Nat.{_≤_};
 ghost use lib.ListN.{length, take};
-ghost use Rattle.scene.specs.Record.{regionRecord, statementRecord, endRecord, recordAt};
+ghost use Rattle.filing.specs.Said.{naming};
+ghost use Rattle.scene.specs.Record.{judgedRegion, judgedStatement, judgedEnd, recordAt};
 ghost use Rattle.scene.specs.Inner.{Begun, judgedOf};
 
 // What a record says, or why and where it is refused.
@@ -29,7 +30,7 @@ pub(crate) enum Record {
 // Behind the kind stands the identifier.
 fn region_at(scene: &[u8], identifiers: &[u32], count: usize, at: usize) -> Record
     requires { ⌜ Begun (now scene) (now identifiers) count at ⌝ }
-    ensures { λ r. ⌜ judgedOf r ≡ regionRecord (now (scene .entry)) (take count (now (identifiers .entry))) at ⌝ }
+    ensures { λ r. ⌜ judgedOf r ≡ judgedRegion (now (scene .entry)) (naming (take count (now (identifiers .entry)))) at ⌝ }
 {
     if scene.len() - at < REGION_BYTES {
         return Record::Refused(Refusal::CutShort, at);
@@ -38,7 +39,7 @@ fn region_at(scene: &[u8], identifiers: &[u32], count: usize, at: usize) -> Reco
     if number == 0 {
         return Record::Refused(Refusal::IdentifierZero, at);
     }
-    match lookup(identifiers, count, Identifier(number)) {
+    match place_of(identifiers, count, Identifier(number)) {
         Found::At(_) => Record::Refused(Refusal::DeclaredTwice, at),
         Found::Nothing => {
             if MOST_REGIONS <= count {
@@ -50,18 +51,18 @@ fn region_at(scene: &[u8], identifiers: &[u32], count: usize, at: usize) -> Reco
     }
 }
 
-// Behind the kind stand identifier A, identifier B and the set; the identifiers are looked up, A first.
+// Behind the kind stand identifier A, identifier B and the set; the places that they name are found, A first.
 fn statement_at(scene: &[u8], identifiers: &[u32], count: usize, at: usize) -> Record
     requires { ⌜ Begun (now scene) (now identifiers) count at ⌝ }
-    ensures { λ r. ⌜ judgedOf r ≡ statementRecord (now (scene .entry)) (take count (now (identifiers .entry))) at ⌝ }
+    ensures { λ r. ⌜ judgedOf r ≡ judgedStatement (now (scene .entry)) (naming (take count (now (identifiers .entry)))) at ⌝ }
 {
     if scene.len() - at < STATEMENT_BYTES {
         return Record::Refused(Refusal::CutShort, at);
     }
-    let Found::At(from) = lookup(identifiers, count, Identifier(number_at(scene, at + 1))) else {
+    let Found::At(from) = place_of(identifiers, count, Identifier(number_at(scene, at + 1))) else {
         return Record::Refused(Refusal::NotDeclared, at);
     };
-    let Found::At(to) = lookup(identifiers, count, Identifier(number_at(scene, at + 5))) else {
+    let Found::At(to) = place_of(identifiers, count, Identifier(number_at(scene, at + 5))) else {
         return Record::Refused(Refusal::NotDeclared, at);
     };
     let set = scene[at + 9];
@@ -74,7 +75,7 @@ fn statement_at(scene: &[u8], identifiers: &[u32], count: usize, at: usize) -> R
 // Nothing stands behind the kind, and nothing may.
 fn end_at(scene: &[u8], identifiers: &[u32], count: usize, at: usize) -> Record
     requires { ⌜ Begun (now scene) (now identifiers) count at ⌝ }
-    ensures { λ r. ⌜ judgedOf r ≡ endRecord (now (scene .entry)) (take count (now (identifiers .entry))) at ⌝ }
+    ensures { λ r. ⌜ judgedOf r ≡ judgedEnd (now (scene .entry)) (naming (take count (now (identifiers .entry)))) at ⌝ }
 {
     if count == 0 {
         return Record::Refused(Refusal::NoRegion, at);
@@ -85,10 +86,10 @@ fn end_at(scene: &[u8], identifiers: &[u32], count: usize, at: usize) -> Record
     Record::End
 }
 
-// The record at a place: the end of the bytes, then the kind, then what the kind asks.
+// The record at an offset: the end of the bytes, then the kind, then what the kind asks.
 pub(crate) fn record_at(scene: &[u8], identifiers: &[u32], count: usize, at: usize) -> Record
     requires { ⌜ count ≤ length (now identifiers) ⌝ }
-    ensures { λ r. ⌜ judgedOf r ≡ recordAt (now (scene .entry)) (take count (now (identifiers .entry))) at ⌝ }
+    ensures { λ r. ⌜ judgedOf r ≡ recordAt (now (scene .entry)) (naming (take count (now (identifiers .entry)))) at ⌝ }
 {
     if scene.len() <= at {
         return Record::Refused(Refusal::CutShort, scene.len());

@@ -35,29 +35,29 @@ fn record_length(kind: u8) -> usize
     1
 }
 
-// The bytes of a record that is refused at a place: its full length or what remains of it, and everything left for 11.
-fn refused_span(scene: &[u8], refusal: Refusal, place: usize) -> Span
-    ensures { λ r. ⌜ Spans (now (scene .entry)) (refusedAt (numberOf refusal) place) r ⌝ }
+// The bytes of a record that is refused at an offset: its full length or what remains of it, and everything left for 11.
+fn refused_span(scene: &[u8], refusal: Refusal, offset: usize) -> Span
+    ensures { λ r. ⌜ Spans (now (scene .entry)) (refusedAt (numberOf refusal) offset) r ⌝ }
 {
-    if scene.len() <= place {
+    if scene.len() <= offset {
         return Span::EMPTY;
     }
     if refusal.number() == 11 {
         return Span {
-            start: place,
+            start: offset,
             end: scene.len(),
         };
     }
-    let length = record_length(scene[place]);
-    if scene.len() - place < length {
+    let length = record_length(scene[offset]);
+    if scene.len() - offset < length {
         return Span {
-            start: place,
+            start: offset,
             end: scene.len(),
         };
     }
     Span {
-        start: place,
-        end: place + length,
+        start: offset,
+        end: offset + length,
     }
 }
 
@@ -69,6 +69,6 @@ pub(crate) fn span_of(scene: &[u8], reading: Reading) -> Span
         Reading::Accepted(_) => Span::EMPTY,
         Reading::WrongLength => Span::EMPTY,
         Reading::TooLong => Span::EMPTY,
-        Reading::Refused(refusal, place) => refused_span(scene, refusal, place),
+        Reading::Refused(refusal, offset) => refused_span(scene, refusal, offset),
     }
 }

@@ -1,4 +1,4 @@
--- The digits of a number: how they are found from the last one on, how many there are, and that they say the number. Assumes nothing.
+-- The digits of a number: how they are found from the last one on, how many there are, and that they say the number.
 use mathlib.Core.Path.{_≡_, refl, sym, _∙_, subst}
 use mathlib.Core.List.{List, [], _∷_, _++_, append-assoc, append-nil}
 use Prim.Native.Nat.{ℕ, zero, suc, _+_, _-_, _*_, _/_, _%_, _^_, _≤_, _<_}
@@ -7,7 +7,7 @@ use native.Mathlib.Omega.{arith}
 use borrow.Author.Tests.{lt-ltb, le-ltb}
 use lib.ListN.{length, take, drop, set, replicate, length-append, length-set, length-drop}
 use lib.Seq.{set-split, drop-at, take-all, length-take-le}
-use Rattle.region.proofs.Splits.{split-lt}
+use Rattle.lists.proofs.Splits.{split-lt}
 use Rattle.text.specs.Decimal.{digit, decimalUpTo, decimal}
 
 -- ---- one digit, and one digit more

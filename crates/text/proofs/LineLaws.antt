@@ -1,4 +1,4 @@
--- How long a line is. Assumes nothing.
+-- How long a line is.
 use mathlib.Core.Path.{_≡_}
 use mathlib.Core.List.{List, [], _∷_}
 use Prim.Native.Nat.{ℕ, _+_}

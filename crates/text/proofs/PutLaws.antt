@@ -1,4 +1,4 @@
--- Putting a text with room for it and without, and one text behind the other. Assumes nothing.
+-- Putting a text with room for it and without, and one text behind the other.
 use mathlib.Core.Path.{_≡_, refl, sym, ap, _∙_}
 use mathlib.Core.Bool.{true, false}
 use mathlib.Core.List.{List, [], _++_, append-assoc, append-nil}

@@ -1,5 +1,5 @@
 -- No second answer meets the contract of `put_word`, nor that of `put_decimal`: neither another next place nor another byte of
--- the buffer. Assumes nothing.
+-- the buffer.
 use mathlib.Core.Path.{_≡_, sym, _∙_}
 use mathlib.Core.List.{List}
 use Prim.Native.Nat.{ℕ}

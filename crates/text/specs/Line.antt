@@ -1,4 +1,4 @@
--- Lines of text as bytes. Assumes nothing.
+-- Lines of text as bytes.
 use Prim.Native.Nat.{ℕ}
 use mathlib.Core.List.{List, [], _∷_, _++_}
 

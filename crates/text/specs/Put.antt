@@ -1,4 +1,4 @@
--- Putting a text into a lent buffer. Assumes nothing.
+-- Putting a text into a lent buffer.
 use mathlib.Core.Path.{_≡_}
 use Prim.Native.Nat.{ℕ, _+_, _≤_}
 use mathlib.Core.Bool.{Bool, cond}

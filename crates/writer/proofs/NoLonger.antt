@@ -1,5 +1,5 @@
 -- A scene written from what an accepted scene says is no longer than that one: a cell that is not 255 comes from a statement at
--- least. Assumes nothing.
+-- least.
 use mathlib.Core.Path.{_≡_, refl, sym, ap, _∙_}
 use mathlib.Core.Bool.{Bool, true, false, cond}
 use mathlib.Core.List.{List, [], _∷_}
@@ -7,16 +7,18 @@ use Prim.Native.Nat.{ℕ, zero, suc, _+_, _*_, _≤_, _<_}
 use native.Mathlib.Omega.{arith}
 use lib.Dec.{eqb}
 use lib.ListN.{length, getD, length-append}
-use Rattle.region.proofs.Splits.{split-eq}
+use Rattle.lists.proofs.Splits.{split-eq}
 use Rattle.relation.specs.Sets.{universal}
 use Rattle.matrix.specs.Cells.{row, column, grid}
 use Rattle.matrix.proofs.CellLaws.{place-back, at-place}
-use Rattle.scene.specs.Statements.{Statement, Said, regions, statedCell}
-use Rattle.scene.specs.Reading.{accepted, readOf}
-use Rattle.scene.proofs.Held.{stated-elsewhere}
+use Rattle.filing.specs.Said.{Statement, Said, regions}
+use Rattle.filing.specs.Stated.{statedCell, cellsOf}
+use Rattle.filing.proofs.StatedLaws.{stated-none, stated-elsewhere}
+use Rattle.scene.specs.Reading.{acceptedSaid, readScene}
+use Rattle.scene.specs.Reads.{startingCell}
+use Rattle.scene.specs.Reached.{Reached, start, region, statement}
 use Rattle.scene.proofs.Reasons.{region-length, statement-length, ends-why}
-use Rattle.scene.proofs.Reached.{Reached, start, region, statement}
-use Rattle.scene.proofs.Endings.{accepts, finished}
+use Rattle.scene.proofs.Endings.{accepted-records, finished}
 use Rattle.writer.specs.Scene.{sceneOf}
 use Rattle.writer.specs.Inner.{statedCount}
 use Rattle.writer.proofs.SceneLaws.{length-scene}
@@ -30,11 +32,11 @@ reached-far (region {at} {said} name r e) =
 reached-far (statement a b set r e) = omega (arith, reached-far r, statement-length)
 
 -- five bytes for each region, ten for each statement, one for End
-pub accepted-length : (scene : List ℕ) (identifiers cells : ℕ) (said : Said) → readOf scene identifiers cells ≡ accepted said
+pub accepted-length : (scene : List ℕ) {said : Said} → readScene scene ≡ acceptedSaid said
     → length scene ≡ 5 * regions said + 10 * length (said .statements) + 1
-accepted-length scene identifiers cells said e =
-    let f = finished scene (accepts scene identifiers cells said e .records-say) in
-    omega (arith, reached-far (f .reached), ends-why scene (said .identifiers) (f .at) (f .end-there) .last)
+accepted-length scene {said} e =
+    let f = finished scene (accepted-records scene e) in
+    omega (arith, reached-far (f .reached), ends-why scene said (f .at) (f .end-there) .last)
 
 -- ---- how many cells a list of statements narrows
 
@@ -71,27 +73,31 @@ none-counts a zero h = refl
 none-counts a (suc p) h = omega (arith, none-counts a p (λ k l. h k (omega arith)), ap counts (h p (omega arith)))
 
 -- no more cells than statements
-stated-cells : (n : ℕ) (l : List Statement) → statedCount (n * n) (grid n (statedCell l)) ≤ length l
-unfolding statedCell
-stated-cells n [] = omega (arith, none-counts (grid n (statedCell [])) (n * n) (λ k h. at-place n (statedCell []) k h))
+stated-cells : (n : ℕ) (l : List Statement) → statedCount (n * n) (grid n (statedCell startingCell l)) ≤ length l
+stated-cells n [] =
+    omega (
+      arith,
+      none-counts (grid n (statedCell startingCell [])) (n * n)
+          (λ k h. at-place n (statedCell startingCell []) k h ∙ stated-none startingCell (row n k) (column n k)),
+    )
 stated-cells n (s ∷ l) =
     omega (
       arith,
       stated-cells n l,
-      one-more-counts (grid n (statedCell (s ∷ l))) (grid n (statedCell l)) (s .from * n + s .to) (n * n)
+      one-more-counts (grid n (statedCell startingCell (s ∷ l))) (grid n (statedCell startingCell l)) (s .from * n + s .to) (n * n)
           (λ k h d.
-          at-place n (statedCell (s ∷ l)) k h
-          ∙ stated-elsewhere s l (row n k) (column n k) (λ e f. d (rw (e, f) (sym (place-back n k))))
-          ∙ sym (at-place n (statedCell l) k h)),
+          at-place n (statedCell startingCell (s ∷ l)) k h
+          ∙ stated-elsewhere startingCell s l (row n k) (column n k) (λ e f. d (rw (e, f) (sym (place-back n k))))
+          ∙ sym (at-place n (statedCell startingCell l) k h)),
     )
 
 -- the scene that is written from what was said
-pub no-longer : (scene : List ℕ) (identifiers cells : ℕ) (said : Said) → readOf scene identifiers cells ≡ accepted said
-    → length (sceneOf (regions said) (said .identifiers) (grid (regions said) (statedCell (said .statements)))) ≤ length scene
-no-longer scene identifiers cells said e =
+pub no-longer : (scene : List ℕ) {said : Said} → readScene scene ≡ acceptedSaid said
+    → length (sceneOf (regions said) (said .identifiers) (cellsOf startingCell said)) ≤ length scene
+no-longer scene {said} e =
     omega (
       arith,
-      accepted-length scene identifiers cells said e,
-      length-scene (regions said) (said .identifiers) (grid (regions said) (statedCell (said .statements))),
+      accepted-length scene e,
+      length-scene (regions said) (said .identifiers) (cellsOf startingCell said),
       stated-cells (regions said) (said .statements),
     )

@@ -1,4 +1,4 @@
--- What putting records one behind the other leaves in a buffer, and that there is room for each. Assumes nothing.
+-- What putting records one behind the other leaves in a buffer, and that there is room for each.
 use mathlib.Core.Path.{_≡_, refl, ap, _∙_}
 use mathlib.Core.List.{List, [], _∷_, _++_, append-assoc}
 use Prim.Native.Nat.{ℕ, suc, _+_, _*_, _≤_, _<_}
@@ -6,14 +6,15 @@ use native.Mathlib.Omega.{arith}
 use lib.ListN.{length, getD, set, take, length-set, length-append}
 use lib.Seq.{sets, length-sets, length-take-le}
 use Rattle.relation.specs.Sets.{universal}
+use Rattle.region.specs.Lookup.{place}
+use Rattle.region.specs.Named.{identifierAt}
 use Rattle.matrix.specs.Cells.{row, column}
-use Rattle.matrix.proofs.CellLaws.{row-lt, column-lt}
-use Rattle.answer.specs.Bytes.{bytesOf, numberPut}
-use Rattle.answer.proofs.BytesLaws.{put-fits}
-use Rattle.scene.specs.Format.{endKind}
-use Rattle.writer.specs.Scene.{regionRecord, statementRecord, regionRecords, statementRecords, sceneOf}
-use Rattle.writer.specs.Inner.{Sized, Room, Put}
-use Rattle.writer.proofs.SceneLaws.{length-regions, regions-more, length-statements, length-scene, statements-same, statements-more, stated-more, stated-grows}
+use Rattle.lists.specs.BigEndian.{bigEndian, numberPut}
+use Rattle.lists.proofs.BigEndianLaws.{put-fits}
+use Rattle.scene.specs.Format.{endKind, regionRecord, statementRecord}
+use Rattle.writer.specs.Scene.{regionRecords, cellRecord, statementRecords, sceneOf}
+use Rattle.writer.specs.Inner.{SceneRoom, Room, Put}
+use Rattle.writer.proofs.SceneLaws.{length-regions, regions-more, length-statements, length-scene, statements-same, statements-more, counted-more, counted-grows}
 
 -- ---- one record
 
@@ -23,8 +24,8 @@ region-put buffer after at identifier h e =
     let next : at + 1 ≡ suc at = omega arith in
     rw (e, put-fits (set buffer at 1) (at + 1) identifier (omega (arith, length-set buffer at 1)), next)
 
-pub length-number-put : (area : List ℕ) (at x : ℕ) → at + 4 ≤ length area → length (numberPut area at x) ≡ length area
-length-number-put area at x h = rw (put-fits area at x h) (length-sets area at (bytesOf x))
+length-number-put : (area : List ℕ) (at x : ℕ) → at + 4 ≤ length area → length (numberPut area at x) ≡ length area
+length-number-put area at x h = rw (put-fits area at x h) (length-sets area at (bigEndian x))
 
 pub statement-put : (buffer first second : List ℕ) (at a b set′ : ℕ) → at + 10 ≤ length buffer
     → first ≡ numberPut (set buffer at 2) (at + 1) a → second ≡ numberPut first (at + 5) b
@@ -50,12 +51,12 @@ put-behind before buffer after records record′ start at e l f =
     rw (f, l, e) (sets-append records record′ before start)
 
 -- the regions up to a place, and the one at it
-pub region-next : (identifiers before buffer after : List ℕ) (p : ℕ) → p < length identifiers
-    → buffer ≡ sets before 0 (regionRecords (take p identifiers)) → after ≡ sets buffer (5 * p) (regionRecord (getD identifiers p 0))
+pub region-next : (identifiers before buffer after : List ℕ) (p x : ℕ) → p < length identifiers → x ≡ getD identifiers p 0
+    → buffer ≡ sets before 0 (regionRecords (take p identifiers)) → after ≡ sets buffer (5 * p) (regionRecord x)
     → after ≡ sets before 0 (regionRecords (take (p + 1) identifiers))
-region-next identifiers before buffer after p h e f =
-    rw (regions-more identifiers p h)
-    (put-behind before buffer after (regionRecords (take p identifiers)) (regionRecord (getD identifiers p 0)) 0 (5 * p) e
+region-next identifiers before buffer after p x h named e f =
+    rw (regions-more identifiers p h, ← named)
+    (put-behind before buffer after (regionRecords (take p identifiers)) (regionRecord x) 0 (5 * p) e
     (omega (arith, length-regions (take p identifiers), length-take-le p identifiers (omega arith)))
     f)
 
@@ -71,16 +72,17 @@ module _ (n : ℕ) (identifiers cells before : List ℕ) (start : ℕ) where
       let same = statements-same n identifiers cells p e in record { bytes = rw same (put .bytes); end = rw same (put .end) }
 
   -- any other puts its statement behind those before it
-  pub stated-put : (p : ℕ) (buffer after : List ℕ) (at : ℕ) → (getD cells p 0 ≡ universal → ⊥)
+  pub stated-put : (p : ℕ) (buffer after : List ℕ) (at a b : ℕ) → (getD cells p 0 ≡ universal → ⊥)
       → Put n p identifiers cells before start buffer at
-      → after ≡ sets buffer at (statementRecord (getD identifiers (row n p) 0) (getD identifiers (column n p) 0) (getD cells p 0))
-      → Put n (p + 1) identifiers cells before start after (at + 10)
-  stated-put p buffer after at e put f =
+      → a ≡ identifierAt identifiers (place (row n p)) → b ≡ identifierAt identifiers (place (column n p))
+      → after ≡ sets buffer at (statementRecord a b (getD cells p 0)) → Put n (p + 1) identifiers cells before start after (at + 10)
+  stated-put p buffer after at a b e put from to f =
       let more = statements-more n identifiers cells p e in
       let records = statementRecords p n identifiers cells in
-      let one = statementRecord (getD identifiers (row n p) 0) (getD identifiers (column n p) 0) (getD cells p 0) in
+      let one = cellRecord n identifiers cells p in
+      let put-one : after ≡ sets buffer at one = rw (← from, ← to) f in
       record {
-        bytes = rw more (put-behind before buffer after records one start at (put .bytes) (put .end) f);
+        bytes = rw more (put-behind before buffer after records one start at (put .bytes) (put .end) put-one);
         end = rw (more, length-append records one) (omega (arith, put .end));
       }
 
@@ -88,13 +90,6 @@ module _ (n : ℕ) (identifiers cells before : List ℕ) (start : ℕ) where
 
 module _ (n : ℕ) (identifiers cells buffer : List ℕ) (start : ℕ) (room : Room n identifiers cells buffer start) (p : ℕ)
     (inside : p < length cells) where
-  -- a cell's row and column are places of identifiers
-  pub row-inside : row n p < length identifiers
-  row-inside = rw (room .sized .regions) (row-lt n p (omega (arith, room .sized .places)))
-
-  pub column-inside : column n p < length identifiers
-  column-inside = rw (room .sized .regions) (column-lt n p (omega (arith, room .sized .places)))
-
   -- a cell that is stated has room for its record behind those before it
   pub statement-room : (getD cells p 0 ≡ universal → ⊥) → start + length (statementRecords p n identifiers cells) + 10 ≤ length buffer
   statement-room e =
@@ -103,19 +98,19 @@ module _ (n : ℕ) (identifiers cells buffer : List ℕ) (start : ℕ) (room : R
         room .fits,
         length-statements n identifiers cells p,
         length-statements n identifiers cells (n * n),
-        stated-more cells p e,
-        stated-grows cells (p + 1) (n * n) (omega (arith, room .sized .places)),
+        counted-more cells p e,
+        counted-grows cells (p + 1) (n * n) (omega (arith, room .sized .square .size)),
       )
 
 -- ---- the whole scene
 
-module _ (n : ℕ) (identifiers cells buffer : List ℕ) (sized : Sized n identifiers cells)
-    (fits : length (sceneOf n identifiers cells) ≤ length buffer) where
+module _ (n : ℕ) (identifiers cells buffer : List ℕ) (room : SceneRoom n identifiers cells buffer) where
   pub regions-fit : 5 * length identifiers ≤ length buffer
-  regions-fit = omega (arith, length-scene n identifiers cells)
+  regions-fit = omega (arith, room .fits, length-scene n identifiers cells)
 
   pub statements-fit : 5 * n + length (statementRecords (n * n) n identifiers cells) < length buffer
-  statements-fit = omega (arith, length-scene n identifiers cells, length-statements n identifiers cells (n * n), sized .regions)
+  statements-fit =
+      omega (arith, room .fits, length-scene n identifiers cells, length-statements n identifiers cells (n * n), room .sized .regions)
 
   -- the regions, the statements behind them, and End behind these
   pub scene-put : (regions statements : List ℕ) (end : ℕ) → regions ≡ sets buffer 0 (regionRecords identifiers)
@@ -125,7 +120,7 @@ module _ (n : ℕ) (identifiers cells buffer : List ℕ) (sized : Sized n identi
   scene-put regions statements end e put =
       let R = regionRecords identifiers in
       let S = statementRecords (n * n) n identifiers cells in
-      let long : 5 * n ≡ length R = omega (arith, length-regions identifiers, sized .regions) in
+      let long : 5 * n ≡ length R = omega (arith, length-regions identifiers, room .sized .regions) in
       let both : statements ≡ sets buffer 0 (R ++ S) = put-behind buffer regions statements R S 0 (5 * n) e (omega arith) (put .bytes) in
       let last : end ≡ 0 + length (R ++ S) = omega (arith, put .end, length-append R S) in
       put-behind buffer statements (set statements end endKind) (R ++ S) (endKind ∷ []) 0 end both last refl

@@ -1,4 +1,4 @@
--- The pieces of a written scene: how long they are, and how one more record continues them. Assumes nothing.
+-- The pieces of a written scene: how long they are, and how one more record continues them.
 use mathlib.Core.Path.{_≡_, refl, ap}
 use mathlib.Core.List.{List, [], _∷_, _++_, append-nil}
 use Prim.Native.Nat.{ℕ, zero, suc, _+_, _*_, _≤_, _<_}
@@ -9,9 +9,9 @@ use lib.Dec.{eqb}
 use lib.ListN.{length, getD, take, length-append}
 use lib.Seq.{take-suc}
 use Rattle.relation.specs.Sets.{universal}
-use Rattle.matrix.specs.Cells.{row, column}
-use Rattle.region.proofs.Splits.{by-test, split-lt}
-use Rattle.writer.specs.Scene.{regionRecord, statementRecord, regionRecords, statementRecords, sceneOf}
+use Rattle.lists.proofs.Splits.{by-test, split-lt}
+use Rattle.scene.specs.Format.{regionRecord}
+use Rattle.writer.specs.Scene.{regionRecords, cellRecord, statementRecords, sceneOf}
 use Rattle.writer.specs.Inner.{statedCount}
 
 -- ---- regions
@@ -52,34 +52,33 @@ module _ (n : ℕ) (identifiers cells : List ℕ) where
   -- any other is, after those before it
   pub statements-more : (p : ℕ) → (getD cells p 0 ≡ universal → ⊥)
       → statementRecords (p + 1) n identifiers cells
-      ≡ statementRecords p n identifiers cells
-      ++ statementRecord (getD identifiers (row n p) 0) (getD identifiers (column n p) 0) (getD cells p 0)
+      ≡ statementRecords p n identifiers cells ++ cellRecord n identifiers cells p
   unfolding statementRecords
   statements-more p e = rw (add-one, ne-eqb (getD cells p 0) universal e)
 
-pub stated-same : (cells : List ℕ) (p : ℕ) → getD cells p 0 ≡ universal → statedCount (p + 1) cells ≡ statedCount p cells
+pub counted-same : (cells : List ℕ) (p : ℕ) → getD cells p 0 ≡ universal → statedCount (p + 1) cells ≡ statedCount p cells
 unfolding statedCount
-stated-same cells p e = rw (add-one, eq-eqb (getD cells p 0) universal e) (omega arith)
+counted-same cells p e = rw (add-one, eq-eqb (getD cells p 0) universal e) (omega arith)
 
-pub stated-more : (cells : List ℕ) (p : ℕ) → (getD cells p 0 ≡ universal → ⊥) → statedCount (p + 1) cells ≡ statedCount p cells + 1
+pub counted-more : (cells : List ℕ) (p : ℕ) → (getD cells p 0 ≡ universal → ⊥) → statedCount (p + 1) cells ≡ statedCount p cells + 1
 unfolding statedCount
-stated-more cells p e = rw (add-one, ne-eqb (getD cells p 0) universal e)
+counted-more cells p e = rw (add-one, ne-eqb (getD cells p 0) universal e)
 
 -- no more cells are stated than there are
-pub stated-most : (cells : List ℕ) (p : ℕ) → statedCount p cells ≤ p
+pub counted-most : (cells : List ℕ) (p : ℕ) → statedCount p cells ≤ p
 unfolding statedCount
-stated-most cells zero = omega arith
-stated-most cells (suc p) =
+counted-most cells zero = omega arith
+counted-most cells (suc p) =
     by-test (eqb (getD cells p 0) universal)
-    (λ e. rw e (omega (arith, stated-most cells p)))
-    (λ e. rw e (omega (arith, stated-most cells p)))
+    (λ e. rw e (omega (arith, counted-most cells p)))
+    (λ e. rw e (omega (arith, counted-most cells p)))
 
 -- and more of more
-pub stated-grows : (cells : List ℕ) (p q : ℕ) → p ≤ q → statedCount p cells ≤ statedCount q cells
+pub counted-grows : (cells : List ℕ) (p q : ℕ) → p ≤ q → statedCount p cells ≤ statedCount q cells
 unfolding statedCount
-stated-grows cells p zero h = let e : p ≡ 0 = omega arith in rw e (omega arith)
-stated-grows cells p (suc q) h =
-    split-lt q p (λ l. let e : p ≡ suc q = omega arith in rw e (omega arith)) (λ l. omega (arith, stated-grows cells p q l))
+counted-grows cells p zero h = let e : p ≡ 0 = omega arith in rw e (omega arith)
+counted-grows cells p (suc q) h =
+    split-lt q p (λ l. let e : p ≡ suc q = omega arith in rw e (omega arith)) (λ l. omega (arith, counted-grows cells p q l))
 
 -- ---- the scene
 

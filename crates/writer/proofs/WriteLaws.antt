@@ -1,34 +1,31 @@
--- How a write ends, check by check: each refusal, and what is written. Assumes nothing.
+-- How a write ends, check by check: each refusal, and what is written.
 use mathlib.Core.Path.{_≡_, refl, sym, ap, _∙_}
+use mathlib.Core.Bool.{true, false}
 use mathlib.Core.List.{List}
 use Prim.Native.Nat.{ℕ, _+_, _*_, _≤_, _<_}
 use native.Mathlib.Nat.{zero-add, mul-le-mul}
 use native.Mathlib.Omega.{arith}
 use borrow.Author.Tests.{lt-ltb, le-ltb, eq-eqb, ne-eqb}
-use lib.Dec.{eqb, ltb}
+use lib.Dec.{ltb}
 use lib.ListN.{length, getD}
 use lib.Seq.{sets, sets-eq, take-length}
-use Rattle.matrix.specs.Cells.{row, column, firstEmpty, emptyPlace}
-use Rattle.matrix.proofs.CellLaws.{empty-place}
-use Rattle.region.proofs.Splits.{split-lt, split-eq}
-use Rattle.matrix.specs.Laid.{laid}
-use Rattle.answer.specs.Answer.{Answer}
+use Rattle.matrix.specs.Square.{inRange}
+use Rattle.matrix.specs.Cells.{row, column, firstEmpty}
+use Rattle.matrix.proofs.CellLaws.{in-range, range-holds, has-square, no-square}
+use Rattle.lists.proofs.Splits.{by-test, split-lt, split-eq}
+use Rattle.lists.specs.Laid.{laid}
+use Rattle.answer.specs.Answer.{Answer, refuses}
+use Rattle.answer.specs.Ending.{refused, stop}
 use Rattle.scene.specs.Format.{mostBytes}
 use Rattle.writer.specs.Scene.{sceneOf}
-use Rattle.writer.specs.Writing.{written, refused, answered, stop, firstBad, checked, writeOf}
+use Rattle.writer.specs.Writing.{written, refusedWith, refusedRegion, refusedCell, firstBad, checked, writeOf}
 use Rattle.writer.specs.Numbers.{answerOf}
 use Rattle.writer.specs.Writes.{bufferAfter, Writes}
-use Rattle.writer.specs.Inner.{Sized, statedCount}
+use Rattle.writer.specs.Writable.{Sized, Writable}
+use Rattle.writer.specs.Inner.{statedCount}
 use Rattle.writer.specs.declared.Writing.{Writing}
 use Rattle.writer.specs.declared.Writing.the-variants.{Written}
 use Rattle.writer.proofs.SceneLaws.{length-scene}
-
--- what may be written: no place is bad, no cell empty, and the scene not too long
-pub record Writable (n : ℕ) (identifiers cells : List ℕ) : Type 0 where
-  pub sized : Sized n identifiers cells
-  pub good : n ≤ firstBad n identifiers
-  pub full : n * n ≤ firstEmpty n cells
-  pub short : length (sceneOf n identifiers cells) ≤ mostBytes
 
 -- n² is small, so nothing that the call computes with it wraps
 pub square-small : (n : ℕ) → n ≤ 64 → n * n ≤ 4096
@@ -39,83 +36,77 @@ module _ (n : ℕ) (identifiers cells : List ℕ) (sized : Sized n identifiers c
   pub bad-found : r ≡ firstBad (length identifiers) identifiers → r ≡ firstBad n identifiers
   bad-found e = e ∙ ap (λ (k : ℕ). firstBad k identifiers) (sized .regions)
 
-  pub empty-found : r ≡ emptyPlace cells → r ≡ firstEmpty n cells
-  empty-found e = e ∙ empty-place n cells (sized .places)
+  pub empty-found : r ≡ firstEmpty (length cells) cells → r ≡ firstEmpty (n * n) cells
+  empty-found e = e ∙ ap (λ (k : ℕ). firstEmpty k cells) (sized .square .size)
 
   pub length-found : r ≡ 5 * n + 10 * statedCount (length cells) cells + 1 → r ≡ length (sceneOf n identifiers cells)
   length-found e =
-      omega (arith, length-scene n identifiers cells, sized .regions, ap (λ (k : ℕ). statedCount k cells) (sized .places))
+      omega (arith, length-scene n identifiers cells, sized .regions, ap (λ (k : ℕ). statedCount k cells) (sized .square .size))
 
 module _ (n : ℕ) (identifiers cells : List ℕ) (room : ℕ) where
-  pub too-few : n < 1 → writeOf n identifiers cells room ≡ refused 1 0 0
+  pub out-of-range : inRange n ≡ false → writeOf n identifiers cells room ≡ refusedWith 1
   unfolding writeOf
-  too-few h = rw (lt-ltb n 1 h)
+  out-of-range e = rw e
 
-  pub too-many : 64 < n → writeOf n identifiers cells room ≡ refused 1 0 0
-  unfolding writeOf
-  too-many h = rw (le-ltb n 1 (omega arith), lt-ltb 64 n h)
-
-  module _ (some : 1 ≤ n) (most : n ≤ 64) where
-    pub other-regions : (length identifiers ≡ n → ⊥) → writeOf n identifiers cells room ≡ refused 2 0 0
+  module _ (range : inRange n ≡ true) where
+    pub other-regions : (length identifiers ≡ n → ⊥) → writeOf n identifiers cells room ≡ refusedWith 2
     unfolding writeOf
-    other-regions h = rw (le-ltb n 1 some, le-ltb 64 n most, ne-eqb (length identifiers) n h)
+    other-regions h = rw (range, ne-eqb (length identifiers) n h)
 
-    pub other-cells : length identifiers ≡ n → (length cells ≡ n * n → ⊥) → writeOf n identifiers cells room ≡ refused 2 0 0
+    pub other-cells : length identifiers ≡ n → (length cells ≡ n * n → ⊥) → writeOf n identifiers cells room ≡ refusedWith 2
     unfolding writeOf
-    other-cells e h =
-        rw (le-ltb n 1 some, le-ltb 64 n most, eq-eqb (length identifiers) n e, ne-eqb (length cells) (n * n) h)
+    other-cells e h = rw (range, eq-eqb (length identifiers) n e, no-square n cells h)
 
   module _ (sized : Sized n identifiers cells) where
-    pub is-checked : writeOf n identifiers cells room ≡ checked n identifiers cells room
+    is-checked : writeOf n identifiers cells room ≡ checked n identifiers cells room
     unfolding writeOf
     is-checked =
         rw (
-          le-ltb n 1 (sized .some),
-          le-ltb 64 n (sized .most),
+          in-range n (sized .square .some) (sized .square .few),
           eq-eqb (length identifiers) n (sized .regions),
-          eq-eqb (length cells) (n * n) (sized .places),
+          has-square n cells (sized .square .size),
         )
 
     pub zero-refused : (p : ℕ) → p ≡ firstBad n identifiers → p < n → getD identifiers p 0 ≡ 0
-        → writeOf n identifiers cells room ≡ refused 6 p 0
+        → writeOf n identifiers cells room ≡ refusedRegion 6 p
     unfolding checked
     zero-refused p e l z = rw (is-checked, ← e, lt-ltb p n l, eq-eqb (getD identifiers p 0) 0 z)
 
     pub twice-refused : (p : ℕ) → p ≡ firstBad n identifiers → p < n → (getD identifiers p 0 ≡ 0 → ⊥)
-        → writeOf n identifiers cells room ≡ refused 7 p 0
+        → writeOf n identifiers cells room ≡ refusedRegion 7 p
     unfolding checked
     twice-refused p e l z = rw (is-checked, ← e, lt-ltb p n l, ne-eqb (getD identifiers p 0) 0 z)
 
     module _ (good : n ≤ firstBad n identifiers) where
-      pub empty-refused : (p : ℕ) → p ≡ firstEmpty n cells → p < n * n
-          → writeOf n identifiers cells room ≡ refused 10 (row n p) (column n p)
+      pub empty-refused : (p : ℕ) → p ≡ firstEmpty (n * n) cells → p < n * n
+          → writeOf n identifiers cells room ≡ refusedCell 10 (row n p) (column n p)
       unfolding checked
       empty-refused p e l = rw (is-checked, le-ltb (firstBad n identifiers) n good, ← e, lt-ltb p (n * n) l)
 
-      pub long-refused : n * n ≤ firstEmpty n cells → mostBytes < length (sceneOf n identifiers cells)
-          → writeOf n identifiers cells room ≡ refused 3 mostBytes 0
+      pub long-refused : n * n ≤ firstEmpty (n * n) cells → mostBytes < length (sceneOf n identifiers cells)
+          → writeOf n identifiers cells room ≡ refused (refuses 3 mostBytes)
       unfolding checked
       long-refused f l =
           rw (
             is-checked,
             le-ltb (firstBad n identifiers) n good,
-            le-ltb (firstEmpty n cells) (n * n) f,
+            le-ltb (firstEmpty (n * n) cells) (n * n) f,
             lt-ltb mostBytes (length (sceneOf n identifiers cells)) l,
           )
 
   module _ (w : Writable n identifiers cells) where
     room-asked : writeOf n identifiers cells room
-        ≡ stop (ltb room (length (sceneOf n identifiers cells))) (refused 12 0 0) (λ _. written (sceneOf n identifiers cells))
+        ≡ stop (ltb room (length (sceneOf n identifiers cells))) (refusedWith 12) (λ _. written (sceneOf n identifiers cells))
     unfolding checked
     room-asked =
         rw (
           is-checked (w .sized),
           le-ltb (firstBad n identifiers) n (w .good),
-          le-ltb (firstEmpty n cells) (n * n) (w .full),
+          le-ltb (firstEmpty (n * n) cells) (n * n) (w .full),
           le-ltb mostBytes (length (sceneOf n identifiers cells)) (w .short),
         )
 
-    pub no-room : room < length (sceneOf n identifiers cells) → writeOf n identifiers cells room ≡ refused 12 0 0
+    pub no-room : room < length (sceneOf n identifiers cells) → writeOf n identifiers cells room ≡ refusedWith 12
     no-room l = rw (room-asked, lt-ltb room (length (sceneOf n identifiers cells)) l)
 
     -- what may be written and has room is written
@@ -124,31 +115,34 @@ module _ (n : ℕ) (identifiers cells : List ℕ) (room : ℕ) where
 
   -- there is no other way: what may be written is written where it has room, and all else is refused with a number
   module _ (C : Type 0) (goes : Writable n identifiers cells → length (sceneOf n identifiers cells) ≤ room → C)
-      (stops : (number first second : ℕ) → (number ≡ 0 → ⊥) → writeOf n identifiers cells room ≡ refused number first second → C) where
+      (stops : (numbers : Answer) → (numbers .number ≡ 0 → ⊥) → writeOf n identifiers cells room ≡ refused numbers → C) where
     sized-ways : Sized n identifiers cells → C
     sized-ways sized =
         let p : ℕ = firstBad n identifiers in
         split-lt p n
         (λ l. split-eq (getD identifiers p 0) 0
-        (λ z. stops 6 p 0 (λ e. omega arith) (zero-refused sized p refl l z))
-        (λ z. stops 7 p 0 (λ e. omega arith) (twice-refused sized p refl l z)))
-        (λ good. split-lt (firstEmpty n cells) (n * n)
-        (λ l. stops 10 _ _ (λ e. omega arith) (empty-refused sized good (firstEmpty n cells) refl l))
+        (λ z. stops (refuses 6 p) (λ e. omega arith) (zero-refused sized p refl l z))
+        (λ z. stops (refuses 7 p) (λ e. omega arith) (twice-refused sized p refl l z)))
+        (λ good. split-lt (firstEmpty (n * n) cells) (n * n)
+        (λ l. stops _ (λ e. omega arith) (empty-refused sized good (firstEmpty (n * n) cells) refl l))
         (λ full. split-lt mostBytes (length (sceneOf n identifiers cells))
-        (λ l. stops 3 mostBytes 0 (λ e. omega arith) (long-refused sized good full l))
+        (λ l. stops (refuses 3 mostBytes) (λ e. omega arith) (long-refused sized good full l))
         (λ short.
         let w : Writable n identifiers cells = record { sized = sized; good = good; full = full; short = short } in
-        split-lt room (length (sceneOf n identifiers cells)) (λ l. stops 12 0 0 (λ e. omega arith) (no-room w l)) (λ l. goes w l))))
+        split-lt room (length (sceneOf n identifiers cells)) (λ l. stops (refuses 12 0) (λ e. omega arith) (no-room w l))
+        (λ l. goes w l))))
 
     pub written-or-refused : C
     written-or-refused =
-        split-lt n 1 (λ l. stops 1 0 0 (λ e. omega arith) (too-few l))
-        (λ some. split-lt 64 n (λ l. stops 1 0 0 (λ e. omega arith) (too-many l))
-        (λ most. split-eq (length identifiers) n
+        by-test (inRange n)
+        (λ range. split-eq (length identifiers) n
         (λ regions. split-eq (length cells) (n * n)
-        (λ places. sized-ways (record { some = some; most = most; regions = regions; places = places }))
-        (λ h. stops 2 0 0 (λ e. omega arith) (other-cells some most regions h)))
-        (λ h. stops 2 0 0 (λ e. omega arith) (other-regions some most h))))
+        (λ size.
+        let from-one = range-holds n range in
+        sized-ways (record { square = record { some = from-one .0; few = from-one .1; size = size }; regions = regions }))
+        (λ h. stops (refuses 2 0) (λ e. omega arith) (other-cells range regions h)))
+        (λ h. stops (refuses 2 0) (λ e. omega arith) (other-regions range h)))
+        (λ e. stops (refuses 1 0) (λ e. omega arith) (out-of-range e))
 
 -- ---- what the call promises of such an end
 
@@ -160,10 +154,10 @@ pub record IsWritten (n : ℕ) (identifiers cells before after : List ℕ) (coun
   pub buffer : after ≡ laid (length (sceneOf n identifiers cells)) (sceneOf n identifiers cells) before
 
 module _ (n : ℕ) (identifiers cells buffer : List ℕ) where
-  pub refuses : (writing : Writing) (number first second : ℕ) → writeOf n identifiers cells (length buffer) ≡ refused number first second
-      → answerOf writing ≡ answered (refused number first second) → Writes n identifiers cells buffer buffer writing
+  pub is-refused : (writing : Writing) (numbers : Answer) → writeOf n identifiers cells (length buffer) ≡ refused numbers
+      → answerOf writing ≡ numbers → Writes n identifiers cells buffer buffer writing
   unfolding bufferAfter
-  refuses writing number first second e a = record { answer = rw e a; buffer = rw e }
+  is-refused writing numbers e a = record { answer = rw e a; buffer = rw e }
 
   pub succeeds : (after scene : List ℕ) (bytes : ℕ) → writeOf n identifiers cells (length buffer) ≡ written scene
       → length scene ≤ length buffer → bytes ≡ length scene → after ≡ sets buffer 0 scene
@@ -189,4 +183,4 @@ module _ (n : ℕ) (identifiers cells buffer : List ℕ) where
         bytes = ap (λ (a : Answer). a .count) (rw e at (w .answer));
         buffer = rw e at (w .buffer);
       })
-      (λ number first second some e. absurd (some (sym (ap (λ (a : Answer). a .number) (rw e at (w .answer))))))
+      (λ numbers some e. absurd (some (sym (ap (λ (a : Answer). a .number) (rw e at (w .answer))))))

@@ -1,4 +1,4 @@
--- What functions inside the crate ask and promise. Assumes nothing.
+-- What functions inside the crate ask and promise; no public contract cites it.
 use mathlib.Core.Path.{_≡_}
 use Prim.Native.Nat.{ℕ, zero, suc, _+_, _*_, _≤_}
 use mathlib.Core.Bool.{cond}
@@ -7,21 +7,25 @@ use lib.Dec.{eqb}
 use lib.ListN.{length, getD}
 use lib.Seq.{sets}
 use Rattle.relation.specs.Sets.{universal}
-use Rattle.writer.specs.Scene.{statementRecords}
+use Rattle.writer.specs.Scene.{statementRecords, sceneOf}
+use Rattle.writer.specs.Writable.{Sized}
 
 -- how many of the first `count` cells are not 255
 unfoldable pub statedCount : ℕ → List ℕ → ℕ
 statedCount zero cells = 0
 statedCount (suc p) cells = statedCount p cells + cond (eqb (getD cells p 0) universal) 0 1
 
--- n from 1 to 64, n identifiers and n² cells
-pub record Sized (n : ℕ) (identifiers cells : List ℕ) : Type 0 where
-  pub some : 1 ≤ n
-  pub most : n ≤ 64
-  pub regions : length identifiers ≡ n
-  pub places : length cells ≡ n * n
+-- so few regions and cells that the length of their scene is a small number
+pub record Few (n : ℕ) (cells : List ℕ) : Type 0 where
+  pub few-regions : n ≤ 64
+  pub few-cells : length cells ≤ 4096
 
--- there is room for the statements from a place on
+-- there is room for the scene
+pub record SceneRoom (n : ℕ) (identifiers cells buffer : List ℕ) : Type 0 where
+  pub sized : Sized n identifiers cells
+  pub fits : length (sceneOf n identifiers cells) ≤ length buffer
+
+-- there is room for the statements from an offset on
 pub record Room (n : ℕ) (identifiers cells buffer : List ℕ) (at : ℕ) : Type 0 where
   pub sized : Sized n identifiers cells
   pub fits : at + length (statementRecords (n * n) n identifiers cells) ≤ length buffer

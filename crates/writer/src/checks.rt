@@ -1,27 +1,27 @@
 // What is looked at before anything is written.
+use filing::place_of;
 use region::Found;
-use region::Identifier;
-use region::lookup;
+use region::Place;
+use region::identifier_at;
 use relation::RelationSet;
 use scene::format::REGION_BYTES;
 use scene::format::STATEMENT_BYTES;
 ghost use mathlib.Core.Path.{_≡_};
 ghost use mathlib.Core.Bool.{_||_};
-ghost use Prim.Native.Nat.{_+_, _*_, _<_, _≤_};
+ghost use Prim.Native.Nat.{_+_, _*_, _≤_};
 ghost use lib.ListN.{length};
 ghost use Rattle.writer.specs.Writing.{isZero, isRepeated, firstBad};
-ghost use Rattle.writer.specs.Inner.{statedCount};
+ghost use Rattle.writer.specs.Inner.{Few, statedCount};
 
-// Whether the identifier at a place is 0 or stands at an earlier place too.
-fn is_bad(identifiers: &[u32], place: usize) -> bool
-    requires { ⌜ place < length (now identifiers) ⌝ }
-    ensures { λ r. ⌜ r ≡ (isZero (now (identifiers .entry)) place || isRepeated (now (identifiers .entry)) place) ⌝ }
+// Whether the identifier at a place is 0 or names an earlier place too.
+fn is_bad(identifiers: &[u32], place: Place) -> bool
+    ensures { λ r. ⌜ r ≡ (isZero (now (identifiers .entry)) (place .0) || isRepeated (now (identifiers .entry)) (place .0)) ⌝ }
 {
-    let number = identifiers[place];
-    if number == 0 {
+    let identifier = identifier_at(identifiers, place);
+    if identifier.0 == 0 {
         return true;
     }
-    match lookup(identifiers, place, Identifier(number)) {
+    match place_of(identifiers, place.0, identifier) {
         Found::At(_) => true,
         Found::Nothing => false,
     }
@@ -33,7 +33,7 @@ pub(crate) fn first_bad(identifiers: &[u32]) -> usize
 {
     let mut place: usize = 0;
     while place < identifiers.len() {
-        if is_bad(identifiers, place) {
+        if is_bad(identifiers, Place(place)) {
             return place;
         }
         place += 1;
@@ -59,7 +59,7 @@ fn stated_count(cells: &[u8]) -> usize
 
 // How many bytes the scene has: five for each region, ten for each statement, one for End.
 pub(crate) fn scene_length(n: usize, cells: &[u8]) -> usize
-    requires { ⌜ (n ≤ 64) × (length (now cells) ≤ 4096) ⌝ }
+    requires { ⌜ Few n (now cells) ⌝ }
     ensures { λ r. ⌜ r ≡ 5 * n + 10 * statedCount (length (now (cells .entry))) (now (cells .entry)) + 1 ⌝ }
 {
     REGION_BYTES * n + STATEMENT_BYTES * stated_count(cells) + 1

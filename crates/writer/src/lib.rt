@@ -1,13 +1,14 @@
 // The scene writer: identifiers and cells become a scene that the reader gives back unchanged.
 mod checks;
+pub mod numbers;
 mod put;
 
 use checks::first_bad;
 use checks::scene_length;
 use put::put_scene;
 use region::Place;
+use region::identifier_at;
 use scene::format::MOST_BYTES;
-use scene::format::MOST_REGIONS;
 ghost use Rattle.writer.specs.Writes.{Writes};
 
 pub enum Writing {
@@ -33,10 +34,7 @@ pub enum Writing {
 pub fn write(n: usize, identifiers: &[u32], cells: &[u8], buffer: &mut [u8]) -> Writing
     ensures { λ r. ⌜ Writes n (now (identifiers .entry)) (now (cells .entry)) (now (buffer .entry)) (now (buffer .exit)) r ⌝ }
 {
-    if n < 1 {
-        return Writing::OutOfRange;
-    }
-    if MOST_REGIONS < n {
+    if !matrix::in_range(n) {
         return Writing::OutOfRange;
     }
     if identifiers.len() != n {
@@ -47,7 +45,7 @@ pub fn write(n: usize, identifiers: &[u32], cells: &[u8], buffer: &mut [u8]) -> 
     }
     let bad = first_bad(identifiers);
     if bad < n {
-        if identifiers[bad] == 0 {
+        if identifier_at(identifiers, Place(bad)).0 == 0 {
             return Writing::IdentifierZero(Place(bad));
         }
         return Writing::DeclaredTwice(Place(bad));

@@ -1,5 +1,8 @@
 // The records of a scene, put one behind the other.
-use answer::put_number;
+use lists::put_number;
+use region::Identifier;
+use region::Place;
+use region::identifier_at;
 use relation::RelationSet;
 use scene::format::END;
 use scene::format::REGION;
@@ -10,27 +13,28 @@ ghost use mathlib.Core.Path.{_≡_};
 ghost use Prim.Native.Nat.{_+_, _*_, _≤_};
 ghost use lib.ListN.{length};
 ghost use lib.Seq.{sets};
-ghost use Rattle.writer.specs.Scene.{regionRecord, statementRecord, regionRecords, sceneOf};
-ghost use Rattle.writer.specs.Inner.{Sized, Room, Put};
+ghost use Rattle.scene.specs.Format.{regionRecord, statementRecord};
+ghost use Rattle.writer.specs.Scene.{regionRecords, sceneOf};
+ghost use Rattle.writer.specs.Inner.{SceneRoom, Room, Put};
 
-// A region record from a place on.
-fn put_region(buffer: &mut [u8], at: usize, identifier: u32)
+// A region record from an offset on.
+fn put_region(buffer: &mut [u8], at: usize, identifier: Identifier)
     requires { ⌜ at + 5 ≤ length (now buffer) ⌝ }
-    ensures { λ _. ⌜ now (buffer .exit) ≡ sets (now (buffer .entry)) at (regionRecord identifier) ⌝ }
+    ensures { λ _. ⌜ now (buffer .exit) ≡ sets (now (buffer .entry)) at (regionRecord (identifier .0)) ⌝ }
 {
     buffer[at] = REGION;
-    put_number(buffer, at + 1, identifier);
+    put_number(buffer, at + 1, identifier.0);
 }
 
-// A statement record from a place on.
-fn put_statement(buffer: &mut [u8], at: usize, a: u32, b: u32, set: u8)
+// A statement record from an offset on.
+fn put_statement(buffer: &mut [u8], at: usize, a: Identifier, b: Identifier, set: RelationSet)
     requires { ⌜ at + 10 ≤ length (now buffer) ⌝ }
-    ensures { λ _. ⌜ now (buffer .exit) ≡ sets (now (buffer .entry)) at (statementRecord a b set) ⌝ }
+    ensures { λ _. ⌜ now (buffer .exit) ≡ sets (now (buffer .entry)) at (statementRecord (a .0) (b .0) (set .0)) ⌝ }
 {
     buffer[at] = STATEMENT;
-    put_number(buffer, at + 1, a);
-    put_number(buffer, at + 5, b);
-    buffer[at + 9] = set;
+    put_number(buffer, at + 1, a.0);
+    put_number(buffer, at + 5, b.0);
+    buffer[at + 9] = set.0;
 }
 
 // The region records in place order, from the buffer's beginning on.
@@ -40,12 +44,13 @@ fn put_regions(identifiers: &[u32], buffer: &mut [u8])
 {
     let mut place: usize = 0;
     while place < identifiers.len() {
-        put_region(buffer, REGION_BYTES * place, identifiers[place]);
+        let identifier = identifier_at(identifiers, Place(place));
+        put_region(buffer, REGION_BYTES * place, identifier);
         place += 1;
     }
 }
 
-// A statement record for each cell in row order that is not 255, from a place on.
+// A statement record for each cell in row order that is not 255, from an offset on.
 fn put_statements(
     n: usize,
     identifiers: &[u32],
@@ -61,7 +66,9 @@ fn put_statements(
     while p < cells.len() {
         let set = cells[p];
         if set != RelationSet::UNIVERSAL.0 {
-            put_statement(buffer, at, identifiers[p / n], identifiers[p % n], set);
+            let from = identifier_at(identifiers, Place(p / n));
+            let to = identifier_at(identifiers, Place(p % n));
+            put_statement(buffer, at, from, to, RelationSet(set));
             at += STATEMENT_BYTES;
         }
         p += 1;
@@ -71,7 +78,7 @@ fn put_statements(
 
 // The whole scene from the buffer's beginning on.
 pub(crate) fn put_scene(n: usize, identifiers: &[u32], cells: &[u8], buffer: &mut [u8])
-    requires { ⌜ Sized n (now identifiers) (now cells) × (length (sceneOf n (now identifiers) (now cells)) ≤ length (now buffer)) ⌝ }
+    requires { ⌜ SceneRoom n (now identifiers) (now cells) (now buffer) ⌝ }
     ensures { λ _. ⌜ now (buffer .exit) ≡ sets (now (buffer .entry)) 0 (sceneOf n (now (identifiers .entry)) (now (cells .entry))) ⌝ }
 {
     put_regions(identifiers, buffer);

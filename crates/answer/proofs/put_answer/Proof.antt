@@ -1,58 +1,49 @@
--- `answer::put_answer` meets its contract: each number is put right behind the one before it. Assumes nothing.
-use borrow.Author.Tests.{eq-eqb, ne-eqb}
-use lib.ListN.{length}
-use Rattle.answer.proofs.BytesLaws.{five-put}
+-- `answer::put_answer` meets its contract: the low 32 bits of a number have its four bytes.
 use borrow.Author.Needs.{needs}
+use Rattle.answer.proofs.AnswerBytes.{crossed-answer}
+use Rattle.answer.proofs.Exporting.{unfit-answers}
 use Rattle.answer.proofs.put_answer.Statement.{statement}
 use Rattle.answer.proofs.put_answer.Tie as tie
 
-put-number-requires : tie.Need-put-number-requires
-put-number-requires c κs = search needs
+returns : tie.Need-returns
+returns c = unfit-answers _ _ (c .if1 .taken)
 
-put-number-requires-2 : tie.Need-put-number-requires-2
-put-number-requires-2 c κs = search needs
+crossing-requires : tie.Need-crossing-requires
+crossing-requires c κs = search needs
 
-put-number-requires-3 : tie.Need-put-number-requires-3
-put-number-requires-3 c κs = search needs
+crossing-requires-2 : tie.Need-crossing-requires-2
+crossing-requires-2 c κs = search needs
 
-put-number-requires-4 : tie.Need-put-number-requires-4
-put-number-requires-4 c κs = search needs
+crossing-requires-3 : tie.Need-crossing-requires-3
+crossing-requires-3 c κs = search needs
 
-put-number-requires-5 : tie.Need-put-number-requires-5
-put-number-requires-5 c κs = search needs
+crossing-requires-4 : tie.Need-crossing-requires-4
+crossing-requires-4 c κs = search needs
+
+put-five-requires : tie.Need-put-five-requires
+put-five-requires c κs = search needs
 
 same-length : tie.Need-same-length
 same-length c = search needs
 
-returns : tie.Need-returns
-returns c =
-    let w₅ = c .before .before in
-    let w₄ = w₅ .before .before .before .before in
-    let w₃ = w₄ .before .before .before .before in
-    let w₂ = w₃ .before .before .before .before in
-    let w₁ = w₂ .before .before .before .before in
-    let a = w₁ .before .before .before .before .args in
-    let long = w₁ .before .before .if1 .taken in
-    rw (eq-eqb (length (a .area .now)) 20 long)
-    (five-put (a .number) (a .first) (a .second) (a .third) (a .count) (a .area .now) _ _ _ _ _ long
-    (w₁ .put-number .ensures)
-    (w₂ .put-number2 .ensures)
-    (w₃ .put-number3 .ensures)
-    (w₄ .put-number4 .ensures)
-    (w₅ .put-number5 .ensures))
-
 returns-2 : tie.Need-returns-2
-returns-2 c = rw (ne-eqb (length (c .before .before .args .area .now)) 20 (c .if1 .left))
+returns-2 c =
+    let at-crossing4 = c .before .before .before .before in
+    let at-crossing3 = at-crossing4 .before in
+    let at-crossing2 = at-crossing3 .before in
+    let at-crossing = at-crossing2 .before in
+    crossed-answer (at-crossing .before .if1 .left) (at-crossing .crossing .ensures) (at-crossing2 .crossing2 .ensures) (at-crossing3 .crossing3 .ensures)
+    (at-crossing4 .crossing4 .ensures) (c .before .before .put-five .ensures)
 
 pub put-answer-spec : {M : Type 1} → statement M
 put-answer-spec =
     tie.close
     (tie.spec
-    put-number-requires
-    put-number-requires-2
-    put-number-requires-3
-    put-number-requires-4
-    put-number-requires-5
-    same-length
     returns
+    crossing-requires
+    crossing-requires-2
+    crossing-requires-3
+    crossing-requires-4
+    put-five-requires
+    same-length
     returns-2)

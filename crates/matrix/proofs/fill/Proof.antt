@@ -1,8 +1,8 @@
--- `matrix::fill` meets its contract. The loop's invariant: the cells before the place are the entry. Assumes nothing.
+-- `matrix::fill` meets its contract. The loop's invariant: the cells before the place are the entry.
 use Prim.Native.Nat.{_-_}
 use native.Mathlib.Omega.{arith}
 use lib.ListN.{length, replicate}
-use Rattle.matrix.proofs.Filling.{Filling, filling-begins, same-entry-more, same-entry-ends}
+use Rattle.lists.proofs.Filling.{Filling, filling-begins, same-entry-more, same-entry-ends}
 use borrow.Author.Needs.{needs}
 use Rattle.matrix.proofs.fill.Statement.{statement}
 use Rattle.matrix.proofs.fill.Tie as tie

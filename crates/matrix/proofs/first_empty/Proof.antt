@@ -1,4 +1,4 @@
--- `matrix::first_empty` meets its contract. The loop's invariant: no cell before the place is empty. Assumes nothing.
+-- `matrix::first_empty` meets its contract. The loop's invariant: no cell before the place is empty.
 use mathlib.Core.Path.{_≡_}
 use mathlib.Core.Bool.{false}
 use Prim.Native.Nat.{ℕ, _≤_, _<_, _-_}
@@ -7,8 +7,8 @@ use borrow.Author.Tests.{eq-eqb, ne-eqb}
 use native.Mathlib.Omega.{arith}
 use lib.Dec.{eqb}
 use lib.ListN.{length, getD}
-use Rattle.region.proofs.LeastLaws.{least-here, least-gone, below-next}
-use Rattle.matrix.specs.Cells.{emptyPlace}
+use Rattle.lists.proofs.LeastLaws.{least-here, least-gone, below-next}
+use Rattle.matrix.specs.Cells.{firstEmpty}
 use Rattle.matrix.proofs.first_empty.Statement.{statement}
 use Rattle.matrix.proofs.first_empty.Tie as tie
 
@@ -25,7 +25,7 @@ shared-slice-read-if1 : tie.Need-shared-slice-read-if1 Inv-loop μ-loop
 shared-slice-read-if1 c = search needs
 
 returns : tie.Need-returns Inv-loop μ-loop
-unfolding emptyPlace
+unfolding firstEmpty
 returns c = least-here _ _ _ (omega arith) (c .before .before .before .loop .inv .1) (eq-eqb _ _ (c .if1 .taken))
 
 add-place : tie.Need-add-place Inv-loop μ-loop
@@ -38,7 +38,7 @@ loop-again : tie.Need-loop-again Inv-loop μ-loop
 loop-again c = (search needs, below-next _ _ (c .before .before .before .loop .inv .1) (ne-eqb _ _ (c .if1 .left)))
 
 returns-2 : tie.Need-returns-2 Inv-loop μ-loop
-unfolding emptyPlace
+unfolding firstEmpty
 returns-2 c = least-gone _ _ _ (omega arith) (c .before .loop .inv .1)
 
 pub first-empty-spec : {M : Type 1} → statement M

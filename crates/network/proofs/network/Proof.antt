@@ -1,10 +1,11 @@
--- `network` meets its contract: each test that it makes is one of those by which the areas serve. Assumes nothing.
-use mathlib.Core.Path.{sym}
+-- `network` meets its contract: each test that it makes is one of those by which the areas serve.
+use mathlib.Core.Path.{sym, _∙_}
 use native.Mathlib.Nat.{mul-le-mul}
 use native.Mathlib.Omega.{arith}
 use borrow.Author.Needs.{needs}
-use borrow.Author.Tests.{lt-leb, le-leb}
+use borrow.Author.Tests.{lt-leb, le-leb, not-true, not-false}
 use lib.Seq.{length-take-le}
+use Rattle.matrix.proofs.CellLaws.{range-holds}
 use Rattle.network.specs.declared.Area.the-variants.{First, Second}
 use Rattle.network.proofs.Handing.{hands-nothing, hands-area}
 use Rattle.network.proofs.network.Statement.{statement}
@@ -13,85 +14,100 @@ use Rattle.network.proofs.network.Tie as tie
 enum-known-verdict : tie.Need-enum-known-verdict
 enum-known-verdict c = search needs
 
+in-range-requires : tie.Need-in-range-requires
+in-range-requires c κs = search needs
+
 slice-aggregate-result : tie.Need-slice-aggregate-result
 slice-aggregate-result c = search needs
 
 returns : tie.Need-returns
-returns c = hands-nothing _ _ _ _ _ _ _ _ (c .before .before .before .verdict .given .1) (rw (lt-leb _ _ (c .before .if1 .taken)))
+returns c =
+    let asked = c .before .before in
+    hands-nothing _ _ _ _ _ _ _ _ (asked .before .before .verdict .given .1) (rw (sym (asked .in-range .ensures) ∙ not-true _ (c .before .if1 .taken)))
+
+mul-size : tie.Need-mul-size
+mul-size c =
+    let few = range-holds _ (sym (c .before .in-range .ensures) ∙ not-false _ (c .if1 .left)) .1 in omega (arith, mul-le-mul few few)
 
 slice-aggregate-result-2 : tie.Need-slice-aggregate-result-2
 slice-aggregate-result-2 c = search needs
 
 returns-2 : tie.Need-returns-2
 returns-2 c =
-    let d = c .before in
-    hands-nothing _ _ _ _ _ _ _ _ (d .before .before .before .verdict .given .1)
-    (rw (le-leb _ _ (d .before .if1 .left), lt-leb _ _ (d .if2 .taken)))
-
-mul-size : tie.Need-mul-size
-mul-size c = omega (arith, mul-le-mul (c .if2 .left) (c .if2 .left))
+    let asked = c .before .before .before in
+    hands-nothing _ _ _ _ _ _ _ _ (asked .before .before .verdict .given .1)
+    (rw (sym (asked .in-range .ensures) ∙ not-false _ (c .before .before .if1 .left), lt-leb _ _ (c .before .if2 .taken)))
 
 slice-aggregate-result-3 : tie.Need-slice-aggregate-result-3
 slice-aggregate-result-3 c = search needs
 
 returns-3 : tie.Need-returns-3
 returns-3 c =
-    let d = c .before .before in
-    hands-nothing _ _ _ _ _ _ _ _ (d .before .before .before .verdict .given .1)
-    (rw (le-leb _ _ (d .before .if1 .left), le-leb _ _ (d .if2 .left), lt-leb _ _ (c .before .if3 .taken)))
-
-slice-aggregate-result-4 : tie.Need-slice-aggregate-result-4
-slice-aggregate-result-4 c = search needs
-
-returns-4 : tie.Need-returns-4
-returns-4 c =
-    let d = c .before .before .before in
-    hands-nothing _ _ _ _ _ _ _ _ (d .before .before .before .verdict .given .1)
-    (rw (le-leb _ _ (d .before .if1 .left), le-leb _ _ (d .if2 .left), le-leb _ _ (c .before .before .if3 .left), lt-leb _ _ (c .before .if4 .taken)))
+    let first = c .before .before in
+    let asked = first .before .before in
+    hands-nothing _ _ _ _ _ _ _ _ (asked .before .before .verdict .given .1)
+    (rw (
+      sym (asked .in-range .ensures) ∙ not-false _ (first .before .if1 .left),
+      le-leb _ _ (first .if2 .left),
+      lt-leb _ _ (c .before .if3 .taken),
+    ))
 
 enum-told : tie.Need-enum-told
 enum-told c = search needs
 
-slice-aggregate-result-5 : tie.Need-slice-aggregate-result-5
-slice-aggregate-result-5 c = sym (length-take-le _ _ (c .before .before .before .before .if3 .left))
+slice-aggregate-result-4 : tie.Need-slice-aggregate-result-4
+slice-aggregate-result-4 c = sym (length-take-le _ _ (omega arith))
 
 enum-told-2 : tie.Need-enum-told-2
 enum-told-2 c = search needs
 
-slice-aggregate-result-6 : tie.Need-slice-aggregate-result-6
-slice-aggregate-result-6 c = sym (length-take-le _ _ (c .before .before .before .if4 .left))
+slice-aggregate-result-5 : tie.Need-slice-aggregate-result-5
+slice-aggregate-result-5 c = sym (length-take-le _ _ (omega arith))
 
 enum-told-3 : tie.Need-enum-told-3
 enum-told-3 c = search needs
 
-slice-aggregate-result-7 : tie.Need-slice-aggregate-result-7
-slice-aggregate-result-7 c = search needs
+slice-aggregate-result-6 : tie.Need-slice-aggregate-result-6
+slice-aggregate-result-6 c = search needs
 
 enum-told-4 : tie.Need-enum-told-4
 enum-told-4 c = search needs
 
-slice-aggregate-result-8 : tie.Need-slice-aggregate-result-8
-slice-aggregate-result-8 c = search needs
+slice-aggregate-result-7 : tie.Need-slice-aggregate-result-7
+slice-aggregate-result-7 c = search needs
 
 enum-told-5 : tie.Need-enum-told-5
 enum-told-5 c = search needs
 
-slice-aggregate-result-9 : tie.Need-slice-aggregate-result-9
-slice-aggregate-result-9 c = search needs
+slice-aggregate-result-8 : tie.Need-slice-aggregate-result-8
+slice-aggregate-result-8 c = search needs
+
+returns-4 : tie.Need-returns-4
+returns-4 c =
+    let second = c .before .before .before in
+    let first = second .before in
+    let asked = first .before .before in
+    hands-area _ _ _ _ _ _ _ _ (asked .before .before .verdict .given .1) First (c .before .enum-told .given .1)
+    (rw (
+      sym (asked .in-range .ensures) ∙ not-false _ (first .before .if1 .left),
+      le-leb _ _ (first .if2 .left),
+      le-leb _ _ (second .if3 .left),
+    ))
 
 returns-5 : tie.Need-returns-5
 returns-5 c =
-    let d = c .before .before .before in
-    let b = d .before .before .before in
-    hands-area _ _ _ _ _ _ _ _ (b .before .before .verdict .given .1) First (c .before .enum-told .given .1)
-    (rw (le-leb _ _ (b .if1 .left), le-leb _ _ (d .before .before .if2 .left), le-leb _ _ (d .before .if3 .left), le-leb _ _ (d .if4 .left)))
+    let second = c .before .before .before in
+    let first = second .before in
+    let asked = first .before .before in
+    hands-area _ _ _ _ _ _ _ _ (asked .before .before .verdict .given .1) Second (c .before .enum-told2 .given .1)
+    (rw (
+      sym (asked .in-range .ensures) ∙ not-false _ (first .before .if1 .left),
+      le-leb _ _ (first .if2 .left),
+      le-leb _ _ (second .if3 .left),
+    ))
 
 returns-6 : tie.Need-returns-6
-returns-6 c =
-    let d = c .before .before .before in
-    let b = d .before .before .before in
-    hands-area _ _ _ _ _ _ _ _ (b .before .before .verdict .given .1) Second (c .before .enum-told2 .given .1)
-    (rw (le-leb _ _ (b .if1 .left), le-leb _ _ (d .before .before .if2 .left), le-leb _ _ (d .before .if3 .left), le-leb _ _ (d .if4 .left)))
+returns-6 c = search needs
 
 returns-7 : tie.Need-returns-7
 returns-7 c = search needs
@@ -99,35 +115,31 @@ returns-7 c = search needs
 returns-8 : tie.Need-returns-8
 returns-8 c = search needs
 
-returns-9 : tie.Need-returns-9
-returns-9 c = search needs
-
 pub network-spec : {M : Type 1} → statement M
 network-spec =
     tie.close
     (tie.spec
     enum-known-verdict
+    in-range-requires
     slice-aggregate-result
     returns
+    mul-size
     slice-aggregate-result-2
     returns-2
-    mul-size
     slice-aggregate-result-3
     returns-3
-    slice-aggregate-result-4
-    returns-4
     enum-told
-    slice-aggregate-result-5
+    slice-aggregate-result-4
     enum-told-2
-    slice-aggregate-result-6
+    slice-aggregate-result-5
     enum-told-3
-    slice-aggregate-result-7
+    slice-aggregate-result-6
     enum-told-4
-    slice-aggregate-result-8
+    slice-aggregate-result-7
     enum-told-5
-    slice-aggregate-result-9
+    slice-aggregate-result-8
+    returns-4
     returns-5
     returns-6
     returns-7
-    returns-8
-    returns-9)
+    returns-8)

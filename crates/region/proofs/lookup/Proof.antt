@@ -1,4 +1,4 @@
--- `region::lookup` meets its contract. The loop's invariant: no entry before `at` holds the identifier. Assumes nothing.
+-- `region::lookup` meets its contract. The loop's invariant: no entry before `at` holds the identifier.
 use mathlib.Core.Path.{_≡_}
 use mathlib.Core.Bool.{false}
 use Prim.Native.Nat.{ℕ, _≤_, _<_, _-_}
@@ -6,7 +6,7 @@ use native.Mathlib.Omega.{arith}
 use borrow.Author.Tests.{ne-eqb}
 use lib.Dec.{eqb}
 use lib.ListN.{length, getD}
-use Rattle.region.proofs.LeastLaws.{below-next}
+use Rattle.lists.proofs.LeastLaws.{below-next}
 use Rattle.region.proofs.LookupLaws.{finds-here, finds-nothing}
 use Rattle.region.proofs.lookup.Statement.{statement}
 use Rattle.region.proofs.lookup.Tie as tie

@@ -1,4 +1,4 @@
--- `relation::compositions` meets its contract. The loop's invariant: the first at entries are those of the list. Assumes nothing.
+-- `relation::compositions` meets its contract. The loop's invariant: the first at entries are those of the list.
 use Prim.Native.Nat.{ℕ, _+_, _-_, _/_, _%_, _≤_, _<_}
 use mathlib.Core.Path.{_≡_, refl, sym, _∙_}
 use mathlib.Core.List.{List}

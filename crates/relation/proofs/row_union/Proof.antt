@@ -1,4 +1,4 @@
--- `relation::row_union` meets its contract. The loop's invariant: union is the union over the members of set below q. Assumes nothing.
+-- `relation::row_union` meets its contract. The loop's invariant: union is the union over the members of set below q.
 use Prim.Native.Nat.{ℕ, _+_, _≤_, _-_}
 use mathlib.Core.Path.{_≡_, sym, _∙_}
 use mathlib.Core.List.{List}

@@ -1,4 +1,4 @@
--- `report_text::class_of` meets its contract: each return goes by the tests that led there. Assumes nothing.
+-- `report_text::class_of` meets its contract: each return goes by the tests that led there.
 use borrow.Author.Needs.{needs}
 use borrow.Author.Tests.{lt-ltb, le-ltb, eq-eqb, ne-eqb}
 use Rattle.report_text.specs.Class.{classOf}

@@ -1,4 +1,4 @@
--- `report_text::put_refined` meets its contract: each verdict's text is the report of the refinement. Assumes nothing.
+-- `report_text::put_refined` meets its contract: each verdict's text is the report of the refinement.
 use borrow.Author.Needs.{needs}
 use native.Mathlib.Omega.{arith}
 use Rattle.report_text.proofs.Refinements.{Call, accepted-network, network-paired, accepted-reports, contradiction-reports, refused-reports}
@@ -12,7 +12,6 @@ call : (c : tie.After-shared-slice-known2)
 call c = record {
   stated-so = c .before .before .before .pre;
   identifiers-small = λ k. omega (arith, c .before .shared-slice-known .given k);
-  sets-small = λ k. omega (arith, c .shared-slice-known2 .given k);
 }
 
 slice-aggregate-refine : tie.Need-slice-aggregate-refine

@@ -1,19 +1,22 @@
--- `report_text::report` meets its contract: what is put is the report of the reading, and the buffer has room for it. Assumes nothing.
+-- `report_text::report` meets its contract: what is put is the report of the reading, and the buffer has room for it.
 use borrow.Author.Needs.{needs}
 use native.Mathlib.Omega.{arith}
-use Rattle.report_text.proofs.Readings.{Accepts, accepted-read, cells-few, stated-front, accepted-reported, refused-reported}
 use denote.Ref.{now}
-use mathlib.Core.Path.{sym}
+use mathlib.Core.Path.{sym, subst}
+use Prim.Native.Nat.{ℕ}
+use Rattle.text.specs.Put.{Adds}
+use Rattle.report_text.specs.Report.{refusalLine}
+use Rattle.report_text.proofs.Readings.{AcceptedScene, accepted-read, cells-few, stated-front, accepted-reported, record-reported, length-reported, never-wrong}
 use Rattle.report_text.proofs.report.Statement.{statement}
 use Rattle.report_text.proofs.report.Tie as tie
 
--- where the reading's number is 0, the areas hold what an accepted scene says
-accepted : (c : tie.Then1)
-    → Accepts (now (c .before .before .before .before .before .before .before .before .before .args .scene)) (c .before .before .before .before .before .read .last .1 .0) (c .before .before .before .before .before .read .last .1 .1 .0) (c .before .before .of-reading .result .count)
-accepted c =
-    let at-of-reading = c .before .before in
-    let at-read = at-of-reading .before .before .before in
-    accepted-read (at-read .read .ensures) (at-of-reading .of-reading .ensures) (c .if1 .taken)
+-- where the scene is accepted, the areas hold what it says
+accepted : (c : tie.After-n)
+    → AcceptedScene (now (c .before .before .before .before .before .before .before .before .args .scene))
+    (c .before .before .before .before .read .last .1 .0)
+    (c .before .before .before .before .read .last .1 .1 .0)
+    (c .n .given .0 .0)
+accepted c = accepted-read (c .before .before .before .before .read .ensures) (c .n .given .1)
 
 slice-aggregate-read : tie.Need-slice-aggregate-read
 slice-aggregate-read c = search needs
@@ -24,43 +27,76 @@ slice-aggregate-read-2 c = search needs
 read-requires : tie.Need-read-requires
 read-requires c κs = search needs
 
-of-reading-requires : tie.Need-of-reading-requires
-of-reading-requires c κs = search needs
+enum-known-n : tie.Need-enum-known-n
+enum-known-n c = search needs
 
 slice-aggregate-put-refined : tie.Need-slice-aggregate-put-refined
 slice-aggregate-put-refined c = search needs
 
 mul-stated : tie.Need-mul-stated
-mul-stated c = omega (arith, cells-few (accepted (c .before .before)))
+mul-stated c = omega (arith, cells-few (accepted (c .before .before .before)))
 
 array-share-prefix-stated : tie.Need-array-share-prefix-stated
 array-share-prefix-stated c =
-    let at-before = c .before in
-    let at-read = at-before .before .before .before .before .before .before in
-    omega (arith, cells-few (accepted (at-before .before)), at-read .read .kept .1 .1 .0)
+    let at-n = c .before .before .before in
+    let at-read = at-n .before .before .before .before in
+    omega (arith, cells-few (accepted at-n), at-read .read .kept .1 .1 .0)
 
 slice-aggregate-put-refined-2 : tie.Need-slice-aggregate-put-refined-2
-slice-aggregate-put-refined-2 c = sym (stated-front (accepted (c .before .before .before)) .size)
+slice-aggregate-put-refined-2 c = sym (stated-front (accepted (c .before .before .before .before)) .size)
 
 put-refined-requires : tie.Need-put-refined-requires
-put-refined-requires c κs = stated-front (accepted (c .before .before .before))
+put-refined-requires c κs = stated-front (accepted (c .before .before .before .before))
 
-returns : tie.Need-returns
-returns c = accepted-reported (accepted (c .before .before .before .before)) (omega arith) (c .put-refined .ensures)
-
-cast-put-refusal : tie.Need-cast-put-refusal
-cast-put-refusal c = search needs
+enum-told : tie.Need-enum-told
+enum-told c = search needs
 
 put-refusal-requires : tie.Need-put-refusal-requires
 put-refusal-requires c κs = search needs
 
+enum-told-2 : tie.Need-enum-told-2
+enum-told-2 c = search needs
+
+put-refusal-requires-2 : tie.Need-put-refusal-requires-2
+put-refusal-requires-2 c κs = search needs
+
+enum-known-refusal : tie.Need-enum-known-refusal
+enum-known-refusal c = search needs
+
+number-requires : tie.Need-number-requires
+number-requires c κs = search needs
+
+cast-put-refusal : tie.Need-cast-put-refusal
+cast-put-refusal c = search needs
+
+put-refusal-requires-3 : tie.Need-put-refusal-requires-3
+put-refusal-requires-3 c κs = search needs
+
+returns : tie.Need-returns
+returns c = accepted-reported (accepted (c .before .before .before .before .before)) (omega arith) (c .put-refined .ensures)
+
 returns-2 : tie.Need-returns-2
 returns-2 c =
-    let at-if1 = c .before .before .before in
-    let at-of-reading = at-if1 .before .before in
-    let at-read = at-of-reading .before .before .before in
-    refused-reported (at-read .read .ensures) (at-of-reading .of-reading .ensures) (at-if1 .if1 .left) (omega arith)
-    (c .put-refusal .ensures)
+    let at-told = c .before .before in
+    let at-read = at-told .before .before .before .before in
+    absurd (never-wrong (at-read .read .ensures) (at-told .enum-told .given .1))
+
+returns-3 : tie.Need-returns-3
+returns-3 c =
+    let at-told = c .before .before in
+    let at-read = at-told .before .before .before .before in
+    length-reported (at-read .read .ensures) (omega arith) (at-told .enum-told2 .given .1) (c .put-refusal2 .ensures)
+
+returns-4 : tie.Need-returns-4
+returns-4 c =
+    let at-number = c .before in
+    let at-refusal = at-number .before .before .before in
+    let at-read = at-refusal .before .before .before .before in
+    let line = subst
+    (λ (x : ℕ). Adds (refusalLine x (at-refusal .refusal .given .0 .1 .0) 0 0) (now (at-read .before .before .before .before .args .buffer)) 0
+    (c .put-refusal3 .last .0) (c .put-refusal3 .result))
+    (at-number .number .ensures) (c .put-refusal3 .ensures) in
+    record-reported (at-read .read .ensures) (omega arith) (at-refusal .refusal .given .1) line
 
 pub report-spec : {M : Type 1} → statement M
 report-spec =
@@ -69,13 +105,21 @@ report-spec =
     slice-aggregate-read
     slice-aggregate-read-2
     read-requires
-    of-reading-requires
+    enum-known-n
     slice-aggregate-put-refined
     mul-stated
     array-share-prefix-stated
     slice-aggregate-put-refined-2
     put-refined-requires
-    returns
-    cast-put-refusal
+    enum-told
     put-refusal-requires
-    returns-2)
+    enum-told-2
+    put-refusal-requires-2
+    enum-known-refusal
+    number-requires
+    cast-put-refusal
+    put-refusal-requires-3
+    returns
+    returns-2
+    returns-3
+    returns-4)

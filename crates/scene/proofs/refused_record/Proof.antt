@@ -1,4 +1,5 @@
--- `scene::refused_record` meets its contract: the part of the scene that `read` leads to. Assumes nothing.
+-- `scene::refused_record` meets its contract: the part of the scene that `read` leads to.
+use mathlib.Core.Path.{refl}
 use Rattle.scene.proofs.Parts.{part-is}
 use borrow.Author.Needs.{needs}
 use Rattle.scene.proofs.refused_record.Statement.{statement}
@@ -29,7 +30,8 @@ returns : tie.Need-returns
 returns c =
     let spanned = c .before in
     let answered = spanned .before .before .before in
-    part-is _ (answered .read .result) _ _ (answered .read .ensures .answer) (spanned .span-of .ensures)
+    part-is _ (record { identifiers-long = refl; cells-long = refl }) (answered .read .result) _ _ _ (answered .read .ensures)
+    (spanned .span-of .ensures)
 
 pub refused-record-spec : {M : Type 1} → statement M
 refused-record-spec =

@@ -1,5 +1,5 @@
 -- `text::put_decimal` meets its contract. The loop's invariant: `left` in decimal, and behind it the digits behind place `first`,
--- are the number in decimal. Assumes nothing.
+-- are the number in decimal.
 use native.Mathlib.Omega.{arith}
 use borrow.Author.Needs.{needs}
 use lib.ListN.{length-set}

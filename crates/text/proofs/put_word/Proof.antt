@@ -1,5 +1,5 @@
 -- `text::put_word` meets its contract. The loop's invariant: the first `done` bytes of the word stand in the buffer, at their
--- places. Assumes nothing.
+-- places.
 use Prim.Native.Nat.{_-_}
 use native.Mathlib.Omega.{arith}
 use lib.ListN.{length}

@@ -1,174 +1,197 @@
--- `writer::write` meets its contract: each check is the definition's, and nothing is put before the last has passed. Assumes nothing.
-use mathlib.Core.Path.{_≡_, refl}
+-- `writer::write` meets its contract: each check is the definition's, and nothing is put before the last has passed.
+use mathlib.Core.Path.{_≡_, refl, sym, _∙_}
+use mathlib.Core.Bool.{true}
 use Prim.Native.Nat.{_*_, _≤_}
 use native.Mathlib.Omega.{arith}
 use borrow.Author.Needs.{needs}
+use borrow.Author.Tests.{not-true, not-false}
 use lib.ListN.{length}
+use Rattle.matrix.specs.Square.{inRange}
 use Rattle.matrix.specs.Cells.{firstEmpty}
+use Rattle.matrix.proofs.CellLaws.{range-holds}
 use Rattle.writer.specs.Scene.{sceneOf}
 use Rattle.writer.specs.Writing.{firstBad}
-use Rattle.writer.specs.Inner.{Sized}
-use Rattle.writer.proofs.WriteLaws.{Writable, square-small, bad-found, empty-found, length-found, too-few, too-many, other-regions, other-cells, zero-refused, twice-refused, empty-refused, long-refused, no-room, is-written, refuses, succeeds}
+use Rattle.writer.specs.Writable.{Sized, Writable}
+use Rattle.writer.proofs.WriteLaws.{square-small, bad-found, empty-found, length-found, out-of-range, other-regions, other-cells, zero-refused, twice-refused, empty-refused, long-refused, no-room, is-written, is-refused, succeeds}
 use Rattle.writer.proofs.write.Statement.{statement}
 use Rattle.writer.proofs.write.Tie as tie
 
--- where the call began, seen from behind the checks of the lengths
-abbrev start : tie.Else4 → tie.Start
-start c = c .before .before .before .before .before .before .before
+-- where the call began, seen from behind the check of the range
+abbrev start : tie.Else1 → tie.Start
+start c = c .before .before .before .before .before
 
-sized : (c : tie.Else4) → Sized (start c .args .n) (start c .args .identifiers .now) (start c .args .cells .now)
-sized c = record { some = omega arith; most = omega arith; regions = c .before .if3 .left; places = c .if4 .left }
+range : (c : tie.Else1) → inRange (start c .args .n) ≡ true
+range c = sym (c .before .in-range .ensures) ∙ not-false _ (c .if1 .left)
 
-bad-at : (c : tie.After-first-bad)
-    → c .first-bad .result ≡ firstBad (start (c .before) .args .n) (start (c .before) .args .identifiers .now)
+-- the check of the range, seen from behind those of the lengths
+abbrev ranged : tie.Else3 → tie.Else1
+ranged c = c .before .before
+
+sized : (c : tie.Else3) → let a = start (ranged c) .args in Sized (a .n) (a .identifiers .now) (a .cells .now)
+sized c =
+    let holds = range-holds _ (range (ranged c)) in
+    record { square = record { some = holds .0; few = holds .1; size = c .if3 .left }; regions = c .before .if2 .left }
+
+bad-at : (c : tie.After-first-bad) → let a = start (ranged (c .before)) .args in
+    c .first-bad .result ≡ firstBad (a .n) (a .identifiers .now)
 bad-at c = bad-found _ _ _ (sized (c .before)) _ (c .first-bad .ensures)
 
-good : (c : tie.Else5)
-    → start (c .before .before) .args .n ≤ firstBad (start (c .before .before) .args .n) (start (c .before .before) .args .identifiers .now)
-good c = omega (arith, c .if5 .left, bad-at (c .before))
+good : (c : tie.Else4) → let a = start (ranged (c .before .before)) .args in a .n ≤ firstBad (a .n) (a .identifiers .now)
+good c = omega (arith, c .if4 .left, bad-at (c .before))
 
-empty-at : (c : tie.After-first-empty)
-    → c .first-empty .result ≡ firstEmpty (start (c .before .before .before) .args .n) (start (c .before .before .before) .args .cells .now)
+empty-at : (c : tie.After-first-empty) → let a = start (ranged (c .before .before .before)) .args in
+    c .first-empty .result ≡ firstEmpty (a .n * a .n) (a .cells .now)
 empty-at c = empty-found _ _ _ (sized (c .before .before .before)) _ (c .first-empty .ensures)
 
-full : (c : tie.Else7) → start (c .before .before .before .before) .args .n * start (c .before .before .before .before) .args .n
-    ≤ firstEmpty (start (c .before .before .before .before) .args .n) (start (c .before .before .before .before) .args .cells .now)
-full c = omega (arith, c .if7 .left, empty-at (c .before))
+-- the checks of the lengths, seen from behind that of the empty cell
+abbrev sized-at : tie.Else6 → tie.Else3
+sized-at c = c .before .before .before .before
 
--- the same seen from behind the check of the length
-abbrev sized-at : tie.Else8 → tie.Else4
-sized-at c = c .before .before .before .before .before .before
+full : (c : tie.Else6) → let a = start (ranged (sized-at c)) .args in a .n * a .n ≤ firstEmpty (a .n * a .n) (a .cells .now)
+full c = omega (arith, c .if6 .left, empty-at (c .before))
 
-length-at : (c : tie.After-scene-length) → let a = start (c .before .before .before .before .before) .args in
+length-at : (c : tie.After-scene-length) → let a = start (ranged (sized-at (c .before))) .args in
     c .scene-length .result ≡ length (sceneOf (a .n) (a .identifiers .now) (a .cells .now))
-length-at c = length-found _ _ _ (sized (c .before .before .before .before .before)) _ (c .scene-length .ensures)
+length-at c = length-found _ _ _ (sized (sized-at (c .before))) _ (c .scene-length .ensures)
 
-writable : (c : tie.Else8) → let a = start (sized-at c) .args in Writable (a .n) (a .identifiers .now) (a .cells .now)
+-- that of the empty cell, seen from behind the one of the scene's length
+abbrev full-at : tie.Else7 → tie.Else6
+full-at c = c .before .before
+
+writable : (c : tie.Else7) → let a = start (ranged (sized-at (full-at c))) .args in
+    Writable (a .n) (a .identifiers .now) (a .cells .now)
 writable c =
     record {
-      sized = sized (sized-at c);
-      good = good (c .before .before .before .before);
-      full = full (c .before .before);
-      short = omega (arith, c .if8 .left, length-at (c .before));
+      sized = sized (sized-at (full-at c));
+      good = good (full-at c .before .before);
+      full = full (full-at c);
+      short = omega (arith, c .if7 .left, length-at (c .before));
     }
 
+in-range-requires : tie.Need-in-range-requires
+in-range-requires c κs = search needs
+
 returns : tie.Need-returns
-returns c = let a = c .before .before .before .before .args in refuses (a .n) _ _ _ _ _ _ _ (too-few (a .n) _ _ _ (c .if1 .taken)) refl
+returns c =
+    let called = c .before in
+    let a = called .before .before .before .before .args in
+    is-refused (a .n) _ _ _ _ _ (out-of-range (a .n) _ _ _ (sym (called .in-range .ensures) ∙ not-true _ (c .if1 .taken))) refl
 
 returns-2 : tie.Need-returns-2
-returns-2 c = let a = c .before .before .before .before .before .args in refuses (a .n) _ _ _ _ _ _ _ (too-many (a .n) _ _ _ (c .if2 .taken)) refl
+returns-2 c =
+    let a = start (c .before) .args in
+    is-refused (a .n) _ _ _ _ _ (other-regions (a .n) (a .identifiers .now) _ _ (range (c .before)) (c .if2 .taken)) refl
+
+mul-if3 : tie.Need-mul-if3
+mul-if3 c =
+    let holds = range-holds _ (range (c .before)) in omega (arith, square-small (start (c .before) .args .n) (holds .1))
 
 returns-3 : tie.Need-returns-3
 returns-3 c =
-    let a = c .before .before .before .before .before .before .args in
-    refuses (a .n) _ _ _ _ _ _ _ (other-regions (a .n) (a .identifiers .now) _ _ (omega arith) (omega arith) (c .if3 .taken)) refl
-
-mul-if4 : tie.Need-mul-if4
-mul-if4 c = omega (arith, square-small (c .before .before .before .before .before .before .args .n) (omega arith))
-
-returns-4 : tie.Need-returns-4
-returns-4 c =
-    let a = c .before .before .before .before .before .before .before .args in
-    refuses (a .n) _ _ _ _ _ _ _
-    (other-cells (a .n) (a .identifiers .now) (a .cells .now) _ (omega arith) (omega arith) (c .before .if3 .left) (c .if4 .taken)) refl
+    let a = start (c .before .before) .args in
+    is-refused (a .n) _ _ _ _ _
+    (other-cells (a .n) (a .identifiers .now) (a .cells .now) _ (range (c .before .before)) (c .before .if2 .left) (c .if3 .taken)) refl
 
 first-bad-requires : tie.Need-first-bad-requires
 first-bad-requires c κs = search needs
 
-mul-if6 : tie.Need-mul-if6
-mul-if6 c = search needs
+identifier-at-requires : tie.Need-identifier-at-requires
+identifier-at-requires c κs = search needs
 
-shared-slice-read-if6 : tie.Need-shared-slice-read-if6
-shared-slice-read-if6 c = search needs
+returns-4 : tie.Need-returns-4
+returns-4 c =
+    let named = c .before .before in
+    let bad = named .before .before in
+    is-refused (start (ranged (bad .before)) .args .n) _ _ _ _ _
+    (zero-refused _ _ _ _ (sized (bad .before)) _ (bad-at bad) (named .before .if4 .taken)
+    (sym (named .identifier-at .ensures) ∙ c .if5 .taken)) refl
 
 returns-5 : tie.Need-returns-5
 returns-5 c =
-    let bad = c .before .before .before in
-    refuses (start (bad .before) .args .n) _ _ _ _ _ _ _
-    (zero-refused _ _ _ _ (sized (bad .before)) _ (bad-at bad) (c .before .before .if5 .taken) (c .if6 .taken)) refl
-
-returns-6 : tie.Need-returns-6
-returns-6 c =
-    let bad = c .before .before .before in
-    refuses (start (bad .before) .args .n) _ _ _ _ _ _ _
-    (twice-refused _ _ _ _ (sized (bad .before)) _ (bad-at bad) (c .before .before .if5 .taken) (c .if6 .left)) refl
+    let named = c .before .before in
+    let bad = named .before .before in
+    is-refused (start (ranged (bad .before)) .args .n) _ _ _ _ _
+    (twice-refused _ _ _ _ (sized (bad .before)) _ (bad-at bad) (named .before .if4 .taken)
+    (λ z. c .if5 .left (named .identifier-at .ensures ∙ z))) refl
 
 first-empty-requires : tie.Need-first-empty-requires
 first-empty-requires c κs = search needs
 
-mul-if7 : tie.Need-mul-if7
-mul-if7 c = search needs
+mul-if6 : tie.Need-mul-if6
+mul-if6 c = search needs
 
-div-t17 : tie.Need-div-t17
-div-t17 c = search needs
+div-t16 : tie.Need-div-t16
+div-t16 c = sized (c .before .before .before .before) .square .some
 
-rem-t19 : tie.Need-rem-t19
-rem-t19 c = search needs
+rem-t18 : tie.Need-rem-t18
+rem-t18 c = sized (c .before .before .before .before) .square .some
 
-returns-7 : tie.Need-returns-7
-returns-7 c =
+returns-6 : tie.Need-returns-6
+returns-6 c =
     let good-ones = c .before .before in
-    refuses (start (good-ones .before .before) .args .n) _ _ _ _ _ _ _
-    (empty-refused _ _ _ _ (sized (good-ones .before .before)) (good good-ones) _ (empty-at (c .before)) (c .if7 .taken)) refl
+    is-refused (start (ranged (good-ones .before .before)) .args .n) _ _ _ _ _
+    (empty-refused _ _ _ _ (sized (good-ones .before .before)) (good good-ones) _ (empty-at (c .before)) (c .if6 .taken)) refl
 
 scene-length-requires : tie.Need-scene-length-requires
 scene-length-requires c κs =
-    let a = start (c .before .before .before .before) .args in
-    (omega arith, omega (arith, square-small (a .n) (omega arith)))
+    let s = sized (sized-at c) in
+    record {
+      few-regions = s .square .few;
+      few-cells = omega (arith, s .square .size, square-small (start (ranged (sized-at c)) .args .n) (s .square .few));
+    }
+
+returns-7 : tie.Need-returns-7
+returns-7 c =
+    let full-ones = c .before .before in
+    let good-ones = full-ones .before .before in
+    is-refused (start (ranged (sized-at full-ones)) .args .n) _ _ _ _ _
+    (long-refused _ _ _ _ (sized (sized-at full-ones)) (good good-ones) (full full-ones)
+    (omega (arith, c .if7 .taken, length-at (c .before)))) refl
 
 returns-8 : tie.Need-returns-8
 returns-8 c =
-    let full-ones = c .before .before in
-    let good-ones = full-ones .before .before in
-    refuses (start (good-ones .before .before) .args .n) _ _ _ _ _ _ _
-    (long-refused _ _ _ _ (sized (good-ones .before .before)) (good good-ones) (full full-ones)
-    (omega (arith, c .if8 .taken, length-at (c .before)))) refl
-
-returns-9 : tie.Need-returns-9
-returns-9 c =
     let short = c .before in
-    refuses (start (sized-at short) .args .n) _ _ _ _ _ _ _
-    (no-room _ _ _ _ (writable short) (omega (arith, c .if9 .taken, length-at (short .before)))) refl
+    is-refused (start (ranged (sized-at (full-at short))) .args .n) _ _ _ _ _
+    (no-room _ _ _ _ (writable short) (omega (arith, c .if8 .taken, length-at (short .before)))) refl
 
 put-scene-requires : tie.Need-put-scene-requires
 put-scene-requires c κs =
     let short = c .before .before in
-    (sized (sized-at short), omega (arith, c .before .if9 .left, length-at (short .before)))
+    record { sized = sized (sized-at (full-at short)); fits = omega (arith, c .before .if8 .left, length-at (short .before)) }
 
 same-length : tie.Need-same-length
 same-length c = search needs
 
-returns-10 : tie.Need-returns-10
-returns-10 c =
+returns-9 : tie.Need-returns-9
+returns-9 c =
     let put = c .before .before in
-    let short = put .before .before .before in
-    let fits = c .before .before .before .before .if9 .left in
-    succeeds (start (sized-at short) .args .n) _ _ _ _ _ _
-    (is-written _ _ _ _ (writable short) (omega (arith, fits, length-at (short .before))))
-    (omega (arith, fits, length-at (short .before))) (length-at (short .before)) (put .put-scene .ensures)
+    let roomy = put .before .before in
+    let short = roomy .before in
+    succeeds (start (ranged (sized-at (full-at short))) .args .n) _ _ _ _ _ _
+    (is-written _ _ _ _ (writable short) (omega (arith, roomy .if8 .left, length-at (short .before))))
+    (omega (arith, roomy .if8 .left, length-at (short .before))) (length-at (short .before)) (put .put-scene .ensures)
 
 pub write-spec : {M : Type 1} → statement M
 write-spec =
     tie.close
     (tie.spec
+    in-range-requires
     returns
     returns-2
+    mul-if3
     returns-3
-    mul-if4
-    returns-4
     first-bad-requires
-    mul-if6
-    shared-slice-read-if6
+    identifier-at-requires
+    returns-4
     returns-5
-    returns-6
     first-empty-requires
-    mul-if7
-    div-t17
-    rem-t19
-    returns-7
+    mul-if6
+    div-t16
+    rem-t18
+    returns-6
     scene-length-requires
+    returns-7
     returns-8
-    returns-9
     put-scene-requires
     same-length
-    returns-10)
+    returns-9)

@@ -1,4 +1,4 @@
--- `cases::console::print_cells` is safe and ends: each turn is a place further. Assumes nothing.
+-- `cases::console::print_cells` is safe and ends: each turn is a place further.
 use Prim.Native.Nat.{_-_}
 use borrow.Author.Needs.{needs}
 use Rattle.cases.proofs.console.print_cells.Statement.{statement}

@@ -1,4 +1,4 @@
--- `cases::console::print_sum` is safe and ends. The loop's invariant: the sum has 32 bits. Assumes nothing.
+-- `cases::console::print_sum` is safe and ends. The loop's invariant: the sum has 32 bits.
 use Prim.Native.Nat.{_-_, _<_}
 use lib.ListN.{length}
 use borrow.Author.Needs.{needs}

@@ -1,4 +1,4 @@
--- `cases::matrices::is_kept` is safe and ends: each turn is a place further. Assumes nothing.
+-- `cases::matrices::is_kept` is safe and ends: each turn is a place further.
 use Prim.Native.Nat.{_-_}
 use lib.ListN.{length}
 use borrow.Author.Needs.{needs}

@@ -1,4 +1,4 @@
--- `cases::scenes::print_identifiers` is safe and ends: each turn is a place further. Assumes nothing.
+-- `cases::scenes::print_identifiers` is safe and ends: each turn is a place further.
 use Prim.Native.Nat.{_-_}
 use borrow.Author.Needs.{needs}
 use Rattle.cases.proofs.scenes.print_identifiers.Statement.{statement}

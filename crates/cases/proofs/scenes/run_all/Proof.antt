@@ -1,4 +1,4 @@
--- `cases::scenes::run_all` is safe and ends: each turn is an argument further. Assumes nothing.
+-- `cases::scenes::run_all` is safe and ends: each turn is an argument further.
 use Prim.Native.Nat.{_-_}
 use borrow.Author.Needs.{needs}
 use Rattle.cases.proofs.scenes.run_all.Statement.{statement}

@@ -1,12 +1,11 @@
 -- `chachaqom::write::identifiers_in` meets its contract. The loop's invariant: the first `place` entries are those of the bytes.
--- Assumes nothing.
 use mathlib.Core.Path.{_≡_, refl}
 use Prim.Native.Nat.{_-_, _≤_}
 use native.Mathlib.Omega.{arith}
 use lib.ListN.{length, take, length-set}
 use borrow.Author.Needs.{needs}
-use Rattle.chachaqom.specs.WriteExport.{numbersIn}
-use Rattle.chachaqom.proofs.Written.{one-held}
+use Rattle.lists.specs.BigEndian.{numbersIn}
+use Rattle.chachaqom.proofs.Crossed.{one-held}
 use Rattle.chachaqom.proofs.write.identifiers_in.Statement.{statement}
 use Rattle.chachaqom.proofs.write.identifiers_in.Tie as tie
 

@@ -1,4 +1,4 @@
--- `prepare::arc_cell` meets its contract: the cells of the node stage are those of `node_cell`. Assumes nothing.
+-- `prepare::arc_cell` meets its contract: the cells of the node stage are those of `node_cell`.
 use borrow.Author.Needs.{needs}
 use Rattle.network.proofs.Prepared.{arc-of-nodes}
 use Rattle.network.proofs.prepare.arc_cell.Statement.{statement}

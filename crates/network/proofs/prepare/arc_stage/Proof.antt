@@ -1,4 +1,4 @@
--- `prepare::arc_stage` meets its contract. The loop's invariant: the cells before the place are those of the arc stage. Assumes nothing.
+-- `prepare::arc_stage` meets its contract. The loop's invariant: the cells before the place are those of the arc stage.
 use mathlib.Core.Path.{_≡_, sym, _∙_}
 use Prim.Native.Nat.{_-_}
 use borrow.Author.Needs.{needs}
@@ -6,21 +6,21 @@ use native.Mathlib.Omega.{arith}
 use lib.ListN.{length}
 use Rattle.matrix.proofs.CellLaws.{row-lt, column-lt}
 use Rattle.refinement.specs.Node.{node}
-use Rattle.refinement.specs.Arc.{arc}
-use Rattle.matrix.proofs.Filling.{Filling, filling-begins, filling-more, filling-ends}
+use Rattle.refinement.specs.Prepare.{prepared}
+use Rattle.lists.proofs.Filling.{Filling, filling-begins, filling-more, filling-ends}
 use Rattle.refinement.proofs.Stages.{length-arc}
-use Rattle.network.proofs.Prepared.{arc-at}
+use Rattle.network.proofs.Prepared.{prepared-at}
 use Rattle.network.proofs.prepare.arc_stage.Statement.{statement}
 use Rattle.network.proofs.prepare.arc_stage.Tie as tie
 
 abbrev Inv-loop : tie.InvT-loop
-Inv-loop n cells area₀ place₀ area place = Filling (arc n (node n cells)) area₀ area place
+Inv-loop n cells area₀ place₀ area place = Filling (prepared n cells) area₀ area place
 
 abbrev μ-loop : tie.MeasureT-loop
 μ-loop n cells area₀ place₀ area place = length area₀ - place
 
 fits : (c : tie.Start Inv-loop μ-loop)
-    → length (arc (c .args .n) (node (c .args .n) (c .args .cells .now))) ≡ length (c .args .area .now)
+    → length (prepared (c .args .n) (c .args .cells .now)) ≡ length (c .args .area .now)
 fits c = length-arc (c .args .n) (node (c .args .n) (c .args .cells .now)) ∙ sym (c .pre .1 .size)
 
 loop-holds : tie.Need-loop-holds Inv-loop μ-loop
@@ -50,7 +50,7 @@ loop-again : tie.Need-loop-again Inv-loop μ-loop
 loop-again c =
     let s = c .before .before .before .before .before in
     filling-more _ _ _ _ (fits s) (c .before .before .loop .inv) _ (c .before .loop-test .taken)
-    (arc-at (s .args .n) (node (s .args .n) (s .args .cells .now)) (c .before .before .loop .place) _ (omega arith) (c .arc-cell .ensures))
+    (prepared-at (s .args .n) (s .args .cells .now) (c .before .before .loop .place) _ (omega arith) (c .arc-cell .ensures))
 
 same-length : tie.Need-same-length Inv-loop μ-loop
 same-length c = c .before .loop .inv .long

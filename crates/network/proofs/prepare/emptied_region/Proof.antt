@@ -1,11 +1,11 @@
--- `prepare::emptied_region` meets its contract. The loop's invariant: no region below i is left empty. Assumes nothing.
+-- `prepare::emptied_region` meets its contract. The loop's invariant: no region below i is left empty.
 use mathlib.Core.Path.{_≡_}
 use mathlib.Core.Bool.{false}
 use Prim.Native.Nat.{ℕ, _≤_, _<_, _-_}
 use borrow.Author.Needs.{needs}
 use native.Mathlib.Omega.{arith}
 use lib.Dec.{eqb}
-use Rattle.region.proofs.LeastLaws.{least-here, least-gone, below-next}
+use Rattle.lists.proofs.LeastLaws.{least-here, least-gone, below-next}
 use Rattle.matrix.specs.Cells.{cell}
 use Rattle.refinement.specs.Node.{node, emptyRegion}
 use Rattle.network.proofs.Prepared.{node-test}

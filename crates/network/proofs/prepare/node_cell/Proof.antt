@@ -1,5 +1,6 @@
--- `prepare::node_cell` meets its contract: the two cases are those of the definition. Assumes nothing.
+-- `prepare::node_cell` meets its contract: the two cases are those of the definition.
 use borrow.Author.Needs.{needs}
+use Rattle.network.proofs.Searches.{cell-in}
 use Rattle.network.proofs.Prepared.{node-on-diagonal, node-off-diagonal}
 use Rattle.network.proofs.prepare.node_cell.Statement.{statement}
 use Rattle.network.proofs.prepare.node_cell.Tie as tie
@@ -12,13 +13,15 @@ intersect-requires c κs = search needs
 
 returns : tie.Need-returns
 returns c =
-    let s = c .before .before .before .before .args in
-    node-on-diagonal (s .n) (s .cells .now) _ _ _ _ (c .before .if1 .taken) (c .before .before .at .ensures) (c .intersect .ensures)
+    let start = c .before .before .before .before in
+    let cell = cell-in (start .pre .2) (start .pre .0) (start .pre .1) (c .before .before .at .ensures) in
+    node-on-diagonal (start .args .n) (start .args .cells .now) _ _ _ _ (c .before .if1 .taken) cell (c .intersect .ensures)
 
 returns-2 : tie.Need-returns-2
 returns-2 c =
-    let s = c .before .before .before .args in
-    node-off-diagonal (s .n) (s .cells .now) _ _ _ (c .if1 .left) (c .before .at .ensures)
+    let start = c .before .before .before in
+    let cell = cell-in (start .pre .2) (start .pre .0) (start .pre .1) (c .before .at .ensures) in
+    node-off-diagonal (start .args .n) (start .args .cells .now) _ _ _ (c .if1 .left) cell
 
 pub node-cell-spec : {M : Type 1} → statement M
 node-cell-spec = tie.close (tie.spec at-requires intersect-requires returns returns-2)

@@ -1,8 +1,8 @@
--- `prepare::prepare` meets its contract: its tests are those of the definition. Assumes nothing.
+-- `prepare::prepare` meets its contract: its tests are those of the definition.
 use native.Mathlib.Omega.{arith}
 use borrow.Author.Needs.{needs}
 use Rattle.matrix.proofs.CellLaws.{row-lt}
-use Rattle.network.proofs.Prepared.{prepared-region, prepared-pair, prepared-ready}
+use Rattle.network.proofs.Prepared.{prepares-region, prepares-pair, prepares-ready}
 use Rattle.network.proofs.prepare.prepare.Statement.{statement}
 use Rattle.network.proofs.prepare.prepare.Tie as tie
 
@@ -10,7 +10,7 @@ emptied-region-requires : tie.Need-emptied-region-requires
 emptied-region-requires c κs = search needs
 
 returns : tie.Need-returns
-returns c = prepared-region _ _ _ _ (c .before .emptied-region .ensures) (c .if1 .taken)
+returns c = prepares-region _ _ _ _ (c .before .emptied-region .ensures) (c .if1 .taken)
 
 arc-stage-requires : tie.Need-arc-stage-requires
 arc-stage-requires c κs = search needs
@@ -18,12 +18,19 @@ arc-stage-requires c κs = search needs
 first-empty-requires : tie.Need-first-empty-requires
 first-empty-requires c κs = search needs
 
+-- what the arc rule made, seen from the search, and the test of the regions before it
+abbrev made : tie.After-first-empty → tie.After-arc-stage
+made c = c .before .before .before .before
+
+abbrev none : tie.After-first-empty → tie.Else1
+none c = made c .before .before
+
+-- where the call began
+abbrev start : tie.After-first-empty → tie.Start
+start c = none c .before .before .before .before
+
 div-t14 : tie.Need-div-t14
-div-t14 c =
-    omega (
-      arith,
-      row-lt (c .before .before .before .before .before .before .before .before .before .before .before .args .n) (c .before .first-empty .result) (omega arith),
-    )
+div-t14 c = omega (arith, row-lt (start (c .before) .args .n) (c .before .first-empty .result) (omega arith))
 
 rem-t16 : tie.Need-rem-t16
 rem-t16 c = div-t14 c
@@ -33,18 +40,20 @@ same-length c = search needs
 
 returns-2 : tie.Need-returns-2
 returns-2 c =
-    let d = c .before .before .before .before .before in
-    prepared-pair _ _ _ _ (d .before .before .before .emptied-region .ensures) (d .before .before .if1 .left) _ (d .arc-stage .ensures) _
-    (c .before .first-empty .ensures) (omega arith)
+    let searched = c .before in
+    let kept = none searched in
+    prepares-pair _ _ _ _ (kept .before .emptied-region .ensures) (kept .if1 .left) _ (made searched .arc-stage .ensures) _
+    (searched .first-empty .ensures) (omega arith)
 
 same-length-2 : tie.Need-same-length-2
 same-length-2 c = search needs
 
 returns-3 : tie.Need-returns-3
 returns-3 c =
-    let d = c .before .before .before .before .before in
-    prepared-ready _ _ _ _ (d .before .before .before .emptied-region .ensures) (d .before .before .if1 .left) _ (d .arc-stage .ensures) _
-    (c .before .first-empty .ensures) (omega arith)
+    let searched = c .before in
+    let kept = none searched in
+    prepares-ready _ _ _ _ (kept .before .emptied-region .ensures) (kept .if1 .left) _ (made searched .arc-stage .ensures) _
+    (searched .first-empty .ensures) (omega arith)
 
 pub prepare-spec : {M : Type 1} → statement M
 prepare-spec =

@@ -1,5 +1,6 @@
--- `round::along` meets its contract: by the listed entries a set composes as by the table. Assumes nothing.
+-- `round::along` meets its contract: by the listed entries a set composes as by the table.
 use borrow.Author.Needs.{needs}
+use Rattle.network.proofs.Searches.{cell-in}
 use Rattle.network.proofs.Running.{composed-by-listed}
 use Rattle.network.proofs.round.along.Statement.{statement}
 use Rattle.network.proofs.round.along.Tie as tie
@@ -15,8 +16,10 @@ compose-by-requires c κs = search needs
 
 returns : tie.Need-returns
 returns c =
-    let s = c .before .before .before .before in
-    composed-by-listed (s .pre .3) (c .before .at2 .ensures) (c .before .before .at .ensures) (c .compose-by .ensures)
+    let start = c .before .before .before .before in
+    let own = cell-in (start .pre .4) (start .pre .0) (start .pre .1) (c .before .at2 .ensures) in
+    let onward = cell-in (start .pre .4) (start .pre .1) (start .pre .2) (c .before .before .at .ensures) in
+    composed-by-listed (start .pre .3) own onward (c .compose-by .ensures)
 
 pub along-spec : {M : Type 1} → statement M
 along-spec = tie.close (tie.spec at-requires at-requires-2 compose-by-requires returns)

@@ -1,4 +1,4 @@
--- `round::one_round` meets its contract: its searches are those of the definition. Assumes nothing.
+-- `round::one_round` meets its contract: its searches are those of the definition.
 use native.Mathlib.Omega.{arith}
 use borrow.Author.Needs.{needs}
 use Rattle.matrix.proofs.CellLaws.{row-lt, column-lt}
@@ -12,17 +12,22 @@ round-requires c κs = search needs
 first-empty-requires : tie.Need-first-empty-requires
 first-empty-requires c κs = search needs
 
+-- where the call began, and what its round made, seen from the first search
+abbrev start : tie.After-first-empty → tie.Start
+start c = c .before .before .before .before .before .before .before .before
+
+abbrev made : tie.After-first-empty → tie.After-round
+made c = c .before .before .before .before
+
 div-i : tie.Need-div-i
-div-i c =
-    let s = c .before .before .before .before .before .before .before .before .before in
-    omega (arith, row-lt (s .args .n) (c .before .first-empty .result) (omega arith))
+div-i c = omega (arith, row-lt (start (c .before) .args .n) (c .before .first-empty .result) (omega arith))
 
 rem-j : tie.Need-rem-j
 rem-j c = div-i c
 
 ran-out-requires : tie.Need-ran-out-requires
 ran-out-requires c κs =
-    let s = c .before .before .before .before .before .before .before .before .before in
+    let s = start (c .before) in
     let p = c .before .first-empty .result in
     (row-lt (s .args .n) p (omega arith), column-lt (s .args .n) p (omega arith), s .pre .0, s .pre .1)
 
@@ -31,8 +36,8 @@ same-length c = search needs
 
 returns : tie.Need-returns
 returns c =
-    let d = c .before .before in
-    rounds-empty _ _ _ (d .before .before .before .before .round .ensures) _ (d .first-empty .ensures) (omega arith) _ (c .ran-out .ensures)
+    let searched = c .before .before in
+    rounds-empty _ _ _ (made searched .round .ensures) _ (searched .first-empty .ensures) (omega arith) _ (c .ran-out .ensures)
 
 first-change-requires : tie.Need-first-change-requires
 first-change-requires c κs = search needs
@@ -42,8 +47,8 @@ same-length-2 c = search needs
 
 returns-2 : tie.Need-returns-2
 returns-2 c =
-    let d = c .before .before .before .before in
-    rounds-changed _ _ _ (d .before .before .before .before .round .ensures) _ (d .first-empty .ensures) (omega arith) _
+    let searched = c .before .before .before .before in
+    rounds-changed _ _ _ (made searched .round .ensures) _ (searched .first-empty .ensures) (omega arith) (start searched .pre .1 .size) _
     (c .before .first-change .ensures) (omega arith)
 
 same-length-3 : tie.Need-same-length-3
@@ -51,8 +56,8 @@ same-length-3 c = search needs
 
 returns-3 : tie.Need-returns-3
 returns-3 c =
-    let d = c .before .before .before .before in
-    rounds-same _ _ _ (d .before .before .before .before .round .ensures) _ (d .first-empty .ensures) (omega arith) _
+    let searched = c .before .before .before .before in
+    rounds-same _ _ _ (made searched .round .ensures) _ (searched .first-empty .ensures) (omega arith) (start searched .pre .1 .size) _
     (c .before .first-change .ensures) (omega arith)
 
 pub one-round-spec : {M : Type 1} → statement M

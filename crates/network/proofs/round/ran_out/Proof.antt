@@ -1,7 +1,8 @@
 -- `round::ran_out` meets its contract. The loop's invariant: the set is (i, j) intersected with the compositions through the places
--- below k, and it was not empty at any of them. Assumes nothing.
+-- below k, and it was not empty at any of them.
 use Prim.Native.Nat.{_+_, _*_, _-_}
 use borrow.Author.Needs.{needs}
+use Rattle.network.proofs.Searches.{cell-in}
 use Rattle.network.proofs.Running.{Running, running-starts, running-on, running-out, running-ends}
 use Rattle.network.proofs.round.ran_out.Statement.{statement}
 use Rattle.network.proofs.round.ran_out.Tie as tie
@@ -17,8 +18,10 @@ at-requires c κs = search needs
 
 loop-holds : tie.Need-loop-holds Inv-loop μ-loop
 loop-holds c =
-    let s = c .before .before .args in
-    running-starts _ _ _ _ _ (c .at .ensures) (c .before .shared-slice-known .given (s .i * s .n + s .j) .fits)
+    let start = c .before .before in
+    let a = start .args in
+    let cell = cell-in (start .pre .3) (start .pre .0) (start .pre .1) (c .at .ensures) in
+    running-starts _ _ _ _ _ cell (c .before .shared-slice-known .given (a .i * a .n + a .j) .fits)
 
 along-requires : tie.Need-along-requires Inv-loop μ-loop
 along-requires c κs = search needs
@@ -31,8 +34,10 @@ is-empty-requires c κs = search needs
 
 returns : tie.Need-returns Inv-loop μ-loop
 returns c =
-    running-out (c .before .before .before .before .before .loop .inv) (c .before .before .before .before .loop-test .taken) _ _
-    (c .before .before .before .along .ensures) (c .before .before .intersect .ensures) _ (c .before .is-empty .ensures) (c .if1 .taken)
+    let narrowed = c .before .before in
+    let turn = narrowed .before .before in
+    running-out (turn .before .loop .inv) (turn .loop-test .taken) _ _ (narrowed .before .along .ensures)
+    (narrowed .intersect .ensures) _ (c .before .is-empty .ensures) (c .if1 .taken)
 
 add-k : tie.Need-add-k Inv-loop μ-loop
 add-k c = search needs
@@ -42,8 +47,10 @@ loop-less c = search needs
 
 loop-again : tie.Need-loop-again Inv-loop μ-loop
 loop-again c =
-    running-on (c .before .before .before .before .before .loop .inv) (c .before .before .before .before .loop-test .taken) _ _
-    (c .before .before .before .along .ensures) (c .before .before .intersect .ensures) _ (c .before .is-empty .ensures) (c .if1 .left)
+    let narrowed = c .before .before in
+    let turn = narrowed .before .before in
+    running-on (turn .before .loop .inv) (turn .loop-test .taken) _ _ (narrowed .before .along .ensures)
+    (narrowed .intersect .ensures) _ (c .before .is-empty .ensures) (c .if1 .left)
 
 returns-2 : tie.Need-returns-2 Inv-loop μ-loop
 returns-2 c = running-ends (c .before .loop .inv) (c .loop-test .left)

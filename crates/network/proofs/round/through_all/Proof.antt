@@ -1,4 +1,4 @@
--- `round::through_all` meets its contract. The loop's invariant: the set is the intersection over the places below k. Assumes nothing.
+-- `round::through_all` meets its contract. The loop's invariant: the set is the intersection over the places below k.
 use mathlib.Core.Path.{_≡_, refl, ap, _∙_}
 use Prim.Native.Nat.{_≤_, _-_}
 use borrow.Author.Needs.{needs}

@@ -1,4 +1,4 @@
--- `round::turn` meets its contract: a round from one area into the other, by the flag. Assumes nothing.
+-- `round::turn` meets its contract: a round from one area into the other, by the flag.
 use borrow.Author.Needs.{needs}
 use Rattle.network.proofs.Stepped.{turns-back, turns-on}
 use Rattle.network.proofs.round.turn.Statement.{statement}

@@ -1,22 +1,19 @@
--- `rounds::run` meets its contract: what preparing found decides, and where it found nothing the rounds do. Assumes nothing.
-use mathlib.Core.Path.{_∙_}
-use Prim.Native.Nat.{_+_, _*_}
+-- `rounds::run` meets its contract: what preparing found decides, and where it found nothing the rounds do.
+use mathlib.Core.Path.{_≡_, _∙_}
+use Prim.Native.Nat.{_*_}
 use borrow.Author.Needs.{needs}
-use Rattle.refinement.proofs.Stages.{Bytes}
-use Rattle.network.specs.Exact.{Exact}
+use lib.ListN.{length}
 use Rattle.network.proofs.Prepared.{prepared-starts, prepared-ends, prepared-refuses-region, prepared-refuses-pair}
 use Rattle.network.proofs.rounds.run.Statement.{statement}
 use Rattle.network.proofs.rounds.run.Tie as tie
 
--- the cells are bytes
-bytes : (c : tie.After-shared-slice-known) → Bytes (c .before .args .n) (c .before .args .cells .now)
-bytes c = record { byte = λ i j hi hj. c .shared-slice-known .given (i * c .before .args .n + j) .fits }
+-- where the call began, seen from behind preparing
+abbrev start : tie.After-prepare → tie.Start
+start c = c .before .before .before .before .before
 
 -- preparing keeps the length of the first area
-exact : (c : tie.After-prepare) → Exact (c .before .before .before .before .before .args .n) (c .prepare .last .1 .1 .0)
-exact c =
-    let s = c .before .before .before .before .before .pre in
-    record { few = s .1 .few; size = c .prepare .kept .1 .1 .0 ∙ s .1 .size }
+size : (c : tie.After-prepare) → length (c .prepare .last .1 .1 .0) ≡ start c .args .n * start c .args .n
+size c = c .prepare .kept .1 .1 .0 ∙ start c .pre .1 .size
 
 prepare-requires : tie.Need-prepare-requires
 prepare-requires c κs = search needs
@@ -41,10 +38,11 @@ compositions-requires c κs = search needs
 
 all-rounds-requires : tie.Need-all-rounds-requires
 all-rounds-requires c κs =
-    let p = c .before .before .before .before .before .before .before .before in
-    let s = p .before .before .before .before .before in
-    let r = prepared-starts (p .prepare .ensures) (s .pre .0 .few) (bytes (p .before .before .before .before)) (c .before .before .before .before .enum-told .given .1) in
-    (c .before .before .before .compositions .ensures, r .exact, s .pre .2, r .plain)
+    let told = c .before .before .before .before in
+    let prepared = told .before .before .before .before in
+    let pre = start prepared .pre in
+    let r = prepared-starts (prepared .prepare .ensures) (pre .0) (told .enum-told .given .1) in
+    (c .before .before .before .compositions .ensures, r .square, pre .2, r .plain)
 
 same-length : tie.Need-same-length
 same-length c = search needs
@@ -54,12 +52,12 @@ same-length-2 c = search needs
 
 returns : tie.Need-returns
 returns c =
-    let d = c .before .before .before .before in
-    let m = d .before .before .before .before in
-    let p = m .before .before .before .before in
-    let s = p .before .before .before .before .before in
-    prepared-refuses-region (p .prepare .ensures) (s .pre .0 .few) (bytes (p .before .before .before .before)) (exact p) (s .pre .2) (m .preparation .given .1)
-    (d .refused .ensures)
+    let cleared = c .before .before .before .before in
+    let told = cleared .before .before .before .before in
+    let prepared = told .before .before .before .before in
+    let pre = start prepared .pre in
+    prepared-refuses-region (prepared .prepare .ensures) (pre .0) (size prepared) (pre .2)
+    (told .preparation .given .1) (cleared .refused .ensures)
 
 same-length-3 : tie.Need-same-length-3
 same-length-3 c = search needs
@@ -69,12 +67,12 @@ same-length-4 c = search needs
 
 returns-2 : tie.Need-returns-2
 returns-2 c =
-    let d = c .before .before .before .before in
-    let m = d .before .before .before .before in
-    let p = m .before .before .before .before in
-    let s = p .before .before .before .before .before in
-    prepared-refuses-pair (p .prepare .ensures) (s .pre .0 .few) (bytes (p .before .before .before .before)) (exact p) (s .pre .2) (m .preparation2 .given .1)
-    (d .refused2 .ensures)
+    let cleared = c .before .before .before .before in
+    let told = cleared .before .before .before .before in
+    let prepared = told .before .before .before .before in
+    let pre = start prepared .pre in
+    prepared-refuses-pair (prepared .prepare .ensures) (pre .0) (size prepared) (pre .2)
+    (told .preparation2 .given .1) (cleared .refused2 .ensures)
 
 same-length-5 : tie.Need-same-length-5
 same-length-5 c = search needs
@@ -84,11 +82,10 @@ same-length-6 c = search needs
 
 returns-3 : tie.Need-returns-3
 returns-3 c =
-    let d = c .before .before .before .before in
-    let m = d .before .before .before .before .before in
-    let p = m .before .before .before .before in
-    let s = p .before .before .before .before .before in
-    prepared-ends (p .prepare .ensures) (s .pre .0 .few) (bytes (p .before .before .before .before)) (m .enum-told .given .1) (d .all-rounds .ensures)
+    let ended = c .before .before .before .before in
+    let told = ended .before .before .before .before .before in
+    let prepared = told .before .before .before .before in
+    prepared-ends (prepared .prepare .ensures) (start prepared .pre .0) (told .enum-told .given .1) (ended .all-rounds .ensures)
 
 pub run-spec : {M : Type 1} → statement M
 run-spec =

@@ -1,4 +1,4 @@
--- `rounds::written` meets its contract: the test is that of the definition. Assumes nothing.
+-- `rounds::written` meets its contract: the test is that of the definition.
 use borrow.Author.Tests.{eq-eqb, ne-eqb}
 use Rattle.network.proofs.rounds.written.Statement.{statement}
 use Rattle.network.proofs.rounds.written.Tie as tie

@@ -1,4 +1,4 @@
--- `relation::RelationSet::compose` meets its contract: the entries lent are the listed ones. Assumes nothing.
+-- `relation::RelationSet::compose` meets its contract: the entries lent are the listed ones.
 use Prim.Native.Nat.{ℕ}
 use mathlib.Core.Path.{ap, _∙_}
 use mathlib.Core.List.{List}

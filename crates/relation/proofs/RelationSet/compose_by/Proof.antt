@@ -1,5 +1,4 @@
 -- `relation::RelationSet::compose_by` meets its contract. The loop's invariant: union is the union over the members of self below p.
--- Assumes nothing.
 use Prim.Native.Nat.{ℕ, _+_, _*_, _≤_, _-_}
 use mathlib.Core.Path.{_≡_, sym, ap, _∙_}
 use mathlib.Core.List.{List}

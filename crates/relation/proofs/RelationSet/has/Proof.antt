@@ -1,4 +1,4 @@
--- `relation::RelationSet::has` meets its contract: a byte has no member from 8 on. Assumes nothing.
+-- `relation::RelationSet::has` meets its contract: a byte has no member from 8 on.
 use mathlib.Core.Path.{sym}
 use borrow.Author.Needs.{needs}
 use Rattle.relation.specs.Sets.{has}

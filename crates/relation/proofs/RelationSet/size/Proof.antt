@@ -1,4 +1,4 @@
--- `relation::RelationSet::size` meets its contract: a test at each of the 256 sets, which antt computes. Assumes nothing.
+-- `relation::RelationSet::size` meets its contract: a test at each of the 256 sets, which antt computes.
 use Prim.Native.Nat.{ℕ}
 use mathlib.Core.Bool.{Bool}
 use lib.Dec.{T, eqb, eqb→eq}

@@ -1,4 +1,4 @@
--- `report_text::lines::put_accepted` meets its contract: its fields one behind the other are the line. Assumes nothing.
+-- `report_text::lines::put_accepted` meets its contract: its fields one behind the other are the line.
 use borrow.Author.Needs.{needs}
 use Rattle.report_text.proofs.LineLaws.{three-adds}
 use Rattle.report_text.proofs.lines.put_accepted.Statement.{statement}

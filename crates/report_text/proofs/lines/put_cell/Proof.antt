@@ -1,4 +1,4 @@
--- `report_text::lines::put_cell` meets its contract: a line above the diagonal, and none elsewhere. Assumes nothing.
+-- `report_text::lines::put_cell` meets its contract: a line above the diagonal, and none elsewhere.
 use borrow.Author.Needs.{needs}
 use Rattle.report_text.proofs.LineLaws.{cell-adds, cell-adds-none}
 use denote.Ref.{now}

@@ -1,4 +1,4 @@
--- `report_text::lines::put_contradiction` meets its contract: each arm names the regions of its contradiction. Assumes nothing.
+-- `report_text::lines::put_contradiction` meets its contract: each arm names the regions of its contradiction.
 use borrow.Author.Needs.{needs}
 use Rattle.report_text.proofs.lines.put_contradiction.Statement.{statement}
 use Rattle.report_text.proofs.lines.put_contradiction.Tie as tie

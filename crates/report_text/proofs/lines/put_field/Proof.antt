@@ -1,4 +1,4 @@
--- `report_text::lines::put_field` meets its contract: a space, and behind it the number. Assumes nothing.
+-- `report_text::lines::put_field` meets its contract: a space, and behind it the number.
 use borrow.Author.Needs.{needs}
 use Rattle.report_text.proofs.LineLaws.{field-adds}
 use Rattle.report_text.proofs.lines.put_field.Statement.{statement}

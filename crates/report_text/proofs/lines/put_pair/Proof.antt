@@ -1,4 +1,4 @@
--- `report_text::lines::put_pair` meets its contract: its fields one behind the other are the line. Assumes nothing.
+-- `report_text::lines::put_pair` meets its contract: its fields one behind the other are the line.
 use borrow.Author.Needs.{needs}
 use Rattle.report_text.proofs.LineLaws.{four-adds}
 use Rattle.report_text.proofs.lines.put_pair.Statement.{statement}

@@ -1,4 +1,4 @@
--- `report_text::lines::put_pairs` meets its contract. The loop's invariant: the lines of the first p cells are put. Assumes nothing.
+-- `report_text::lines::put_pairs` meets its contract. The loop's invariant: the lines of the first p cells are put.
 use mathlib.Core.Path.{_≡_, refl, _∙_}
 use Prim.Native.Nat.{_*_, _-_}
 use native.Mathlib.Nat.{mul-le-mul}

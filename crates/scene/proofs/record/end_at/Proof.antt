@@ -1,4 +1,4 @@
--- `scene::record::end_at` meets its contract. Assumes nothing.
+-- `scene::record::end_at` meets its contract.
 use mathlib.Core.Path.{sym, _∙_}
 use borrow.Author.Tests.{eq-eqb, ne-eqb, lt-ltb, le-ltb}
 use Rattle.scene.proofs.Judging.{end-is}

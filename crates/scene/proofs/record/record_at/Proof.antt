@@ -1,4 +1,4 @@
--- `scene::record::record_at` meets its contract. Assumes nothing.
+-- `scene::record::record_at` meets its contract.
 use borrow.Author.Tests.{eq-eqb, ne-eqb, lt-leb, le-leb}
 use Rattle.scene.specs.Record.{recordAt}
 use borrow.Author.Needs.{needs}

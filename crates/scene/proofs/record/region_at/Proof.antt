@@ -1,4 +1,4 @@
--- `scene::record::region_at` meets its contract. Assumes nothing.
+-- `scene::record::region_at` meets its contract.
 use mathlib.Core.Path.{refl, sym, _∙_}
 use borrow.Author.Tests.{eq-eqb, ne-eqb, lt-ltb, le-ltb, le-leb, lt-leb}
 use Rattle.scene.proofs.Judging.{region-is}
@@ -31,8 +31,8 @@ returns-2 c =
     (region-is _ _ _ _ (begun .pre .counted) _ (named .number-at .ensures) _ refl
     ∙ rw (le-ltb _ _ (whole .if1 .left), eq-eqb _ _ (c .if2 .taken)))
 
-lookup-requires : tie.Need-lookup-requires
-lookup-requires c κs = search needs
+place-of-requires : tie.Need-place-of-requires
+place-of-requires c κs = search needs
 
 enum-told : tie.Need-enum-told
 enum-told c = search needs
@@ -48,7 +48,7 @@ returns-3 c =
     let whole = named .before in
     let begun = whole .before .before .before in
     sym
-    (region-is _ _ _ _ (begun .pre .counted) _ (named .number-at .ensures) _ (looked .lookup .ensures)
+    (region-is _ _ _ _ (begun .pre .counted) _ (named .number-at .ensures) _ (looked .place-of .ensures)
     ∙ rw (le-ltb _ _ (whole .if1 .left), ne-eqb _ _ (good .if2 .left), c .enum-told .given .1))
 
 returns-4 : tie.Need-returns-4
@@ -60,7 +60,7 @@ returns-4 c =
     let whole = named .before in
     let begun = whole .before .before .before in
     sym
-    (region-is _ _ _ _ (begun .pre .counted) _ (named .number-at .ensures) _ (looked .lookup .ensures)
+    (region-is _ _ _ _ (begun .pre .counted) _ (named .number-at .ensures) _ (looked .place-of .ensures)
     ∙ rw (le-ltb _ _ (whole .if1 .left), ne-eqb _ _ (good .if2 .left), new .enum-told2 .given .1, le-leb _ _ (c .if3 .taken)))
 
 returns-5 : tie.Need-returns-5
@@ -72,7 +72,7 @@ returns-5 c =
     let whole = named .before in
     let begun = whole .before .before .before in
     sym
-    (region-is _ _ _ _ (begun .pre .counted) _ (named .number-at .ensures) _ (looked .lookup .ensures)
+    (region-is _ _ _ _ (begun .pre .counted) _ (named .number-at .ensures) _ (looked .place-of .ensures)
     ∙ rw (le-ltb _ _ (whole .if1 .left), ne-eqb _ _ (good .if2 .left), new .enum-told2 .given .1, lt-leb _ _ (c .if3 .left)))
 
 pub region-at-spec : {M : Type 1} → statement M
@@ -84,7 +84,7 @@ region-at-spec =
     add-number-at
     number-at-requires
     returns-2
-    lookup-requires
+    place-of-requires
     enum-told
     enum-told-2
     returns-3

@@ -1,4 +1,4 @@
--- `scene::record::statement_at` meets its contract. Assumes nothing.
+-- `scene::record::statement_at` meets its contract.
 use mathlib.Core.Path.{refl, sym, _∙_}
 use borrow.Author.Tests.{eq-eqb, ne-eqb, lt-ltb, le-ltb}
 use Rattle.scene.proofs.Judging.{statement-is}
@@ -22,8 +22,8 @@ add-number-at c = search needs
 number-at-requires : tie.Need-number-at-requires
 number-at-requires c κs = search needs
 
-lookup-requires : tie.Need-lookup-requires
-lookup-requires c κs = search needs
+place-of-requires : tie.Need-place-of-requires
+place-of-requires c κs = search needs
 
 enum-known-from : tie.Need-enum-known-from
 enum-known-from c = search needs
@@ -38,7 +38,7 @@ returns-2 c =
     let whole = named .before in
     let begun = whole .before .before .before in
     sym
-    (statement-is _ _ _ _ (begun .pre .counted) _ (named .number-at .ensures) _ (looked .lookup .ensures) _ refl _ refl
+    (statement-is _ _ _ _ (begun .pre .counted) _ (named .number-at .ensures) _ (looked .place-of .ensures) _ refl _ refl
     ∙ rw (le-ltb _ _ (whole .if1 .left), c .enum-told .given .1))
 
 add-number-at-2 : tie.Need-add-number-at-2
@@ -47,8 +47,8 @@ add-number-at-2 c = search needs
 number-at-requires-2 : tie.Need-number-at-requires-2
 number-at-requires-2 c κs = search needs
 
-lookup-requires-2 : tie.Need-lookup-requires-2
-lookup-requires-2 c κs = search needs
+place-of-requires-2 : tie.Need-place-of-requires-2
+place-of-requires-2 c κs = search needs
 
 enum-known-to : tie.Need-enum-known-to
 enum-known-to c = search needs
@@ -66,8 +66,8 @@ returns-3 c =
     let whole = named .before in
     let begun = whole .before .before .before in
     sym
-    (statement-is _ _ _ _ (begun .pre .counted) _ (named .number-at .ensures) _ (looked .lookup .ensures) _ (named-to .number-at2 .ensures) _
-    (looked-to .lookup2 .ensures)
+    (statement-is _ _ _ _ (begun .pre .counted) _ (named .number-at .ensures) _ (looked .place-of .ensures) _ (named-to .number-at2 .ensures) _
+    (looked-to .place-of2 .ensures)
     ∙ rw (le-ltb _ _ (whole .if1 .left), found .from .given .1, c .enum-told2 .given .1))
 
 add-set : tie.Need-add-set
@@ -87,8 +87,8 @@ returns-4 c =
     let whole = named .before in
     let begun = whole .before .before .before in
     sym
-    (statement-is _ _ _ _ (begun .pre .counted) _ (named .number-at .ensures) _ (looked .lookup .ensures) _ (named-to .number-at2 .ensures) _
-    (looked-to .lookup2 .ensures)
+    (statement-is _ _ _ _ (begun .pre .counted) _ (named .number-at .ensures) _ (looked .place-of .ensures) _ (named-to .number-at2 .ensures) _
+    (looked-to .place-of2 .ensures)
     ∙ rw (le-ltb _ _ (whole .if1 .left), found .from .given .1, found-to .to .given .1, eq-eqb _ _ (c .if2 .taken)))
 
 returns-5 : tie.Need-returns-5
@@ -102,8 +102,8 @@ returns-5 c =
     let whole = named .before in
     let begun = whole .before .before .before in
     sym
-    (statement-is _ _ _ _ (begun .pre .counted) _ (named .number-at .ensures) _ (looked .lookup .ensures) _ (named-to .number-at2 .ensures) _
-    (looked-to .lookup2 .ensures)
+    (statement-is _ _ _ _ (begun .pre .counted) _ (named .number-at .ensures) _ (looked .place-of .ensures) _ (named-to .number-at2 .ensures) _
+    (looked-to .place-of2 .ensures)
     ∙ rw (le-ltb _ _ (whole .if1 .left), found .from .given .1, found-to .to .given .1, ne-eqb _ _ (c .if2 .left)))
 
 pub statement-at-spec : {M : Type 1} → statement M
@@ -114,13 +114,13 @@ statement-at-spec =
     returns
     add-number-at
     number-at-requires
-    lookup-requires
+    place-of-requires
     enum-known-from
     enum-told
     returns-2
     add-number-at-2
     number-at-requires-2
-    lookup-requires-2
+    place-of-requires-2
     enum-known-to
     enum-told-2
     returns-3

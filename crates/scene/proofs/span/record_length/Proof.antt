@@ -1,4 +1,4 @@
--- `scene::span::record_length` meets its contract. Assumes nothing.
+-- `scene::span::record_length` meets its contract.
 use borrow.Author.Tests.{eq-eqb, ne-eqb}
 use Rattle.scene.specs.Format.{lengthOf}
 use Rattle.scene.proofs.span.record_length.Statement.{statement}

@@ -1,4 +1,4 @@
--- `scene::span::refused_span` meets its contract. Assumes nothing.
+-- `scene::span::refused_span` meets its contract.
 use mathlib.Core.Path.{sym, _∙_}
 use Rattle.scene.proofs.Numbered.{numbered}
 use Rattle.scene.proofs.Spanning.{none-spans, rest-spans, cut-spans, whole-spans}

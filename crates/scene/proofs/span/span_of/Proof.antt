@@ -1,4 +1,4 @@
--- `scene::span::span_of` meets its contract. Assumes nothing.
+-- `scene::span::span_of` meets its contract.
 use Rattle.scene.proofs.Spanning.{accepted-spans, limit-spans}
 use borrow.Author.Needs.{needs}
 use Rattle.scene.proofs.span.span_of.Statement.{statement}

@@ -1,10 +1,11 @@
--- `writer::checks::first_bad` meets its contract. The loop's invariant: no place before `place` is bad. Assumes nothing.
+-- `writer::checks::first_bad` meets its contract. The loop's invariant: no place before `place` is bad.
 use mathlib.Core.Path.{_≡_, sym, _∙_}
 use mathlib.Core.Bool.{false, _||_}
 use Prim.Native.Nat.{ℕ, _≤_, _<_, _-_}
 use native.Mathlib.Omega.{arith}
+use borrow.Author.Needs.{needs}
 use lib.ListN.{length}
-use Rattle.region.proofs.LeastLaws.{least-here, least-gone, below-next}
+use Rattle.lists.proofs.LeastLaws.{least-here, least-gone, below-next}
 use Rattle.writer.specs.Writing.{isZero, isRepeated, firstBad}
 use Rattle.writer.proofs.checks.first_bad.Statement.{statement}
 use Rattle.writer.proofs.checks.first_bad.Tie as tie
@@ -20,7 +21,7 @@ loop-holds : tie.Need-loop-holds Inv-loop μ-loop
 loop-holds c = (omega arith, λ k l. absurd (omega arith))
 
 is-bad-requires : tie.Need-is-bad-requires Inv-loop μ-loop
-is-bad-requires c κs = c .loop-test .taken
+is-bad-requires c κs = search needs
 
 returns : tie.Need-returns Inv-loop μ-loop
 unfolding firstBad

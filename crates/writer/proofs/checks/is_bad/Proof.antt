@@ -1,20 +1,20 @@
--- `writer::checks::is_bad` meets its contract. Assumes nothing.
+-- `writer::checks::is_bad` meets its contract.
 use borrow.Author.Needs.{needs}
 use Rattle.writer.proofs.CheckLaws.{zero-bad, found-bad, new-good}
 use Rattle.writer.proofs.checks.is_bad.Statement.{statement}
 use Rattle.writer.proofs.checks.is_bad.Tie as tie
 
-mul-number : tie.Need-mul-number
-mul-number c = search needs
-
-shared-slice-read-number : tie.Need-shared-slice-read-number
-shared-slice-read-number c = search needs
+identifier-at-requires : tie.Need-identifier-at-requires
+identifier-at-requires c κs = search needs
 
 returns : tie.Need-returns
-returns c = let s = c .before .before .before in zero-bad (s .args .identifiers .now) (s .args .place) (s .pre) (c .if1 .taken)
+returns c =
+    let named = c .before .before in
+    let a = named .before .before .args in
+    zero-bad (a .identifiers .now) (a .place .0) _ (named .identifier-at .ensures) (c .if1 .taken)
 
-lookup-requires : tie.Need-lookup-requires
-lookup-requires c κs = search needs
+place-of-requires : tie.Need-place-of-requires
+place-of-requires c κs = search needs
 
 enum-told : tie.Need-enum-told
 enum-told c = search needs
@@ -24,24 +24,29 @@ enum-told-2 c = search needs
 
 returns-2 : tie.Need-returns-2
 returns-2 c =
-    let s = c .before .before .before .before .before .before in
-    found-bad (s .args .identifiers .now) (s .args .place) (s .pre) _ _ (c .before .before .before .if1 .left)
-    (c .before .before .lookup .ensures) (c .enum-told .given .1)
+    let looked = c .before .before in
+    let some = looked .before in
+    let named = some .before .before in
+    let a = named .before .before .args in
+    found-bad (a .identifiers .now) (a .place .0) _ (named .identifier-at .ensures) (some .if1 .left) _ (looked .place-of .ensures) _
+    (c .enum-told .given .1)
 
 returns-3 : tie.Need-returns-3
 returns-3 c =
-    let s = c .before .before .before .before .before .before in
-    new-good (s .args .identifiers .now) (s .args .place) (s .pre) _ (c .before .before .before .if1 .left)
-    (c .before .before .lookup .ensures) (c .enum-told2 .given .1)
+    let looked = c .before .before in
+    let some = looked .before in
+    let named = some .before .before in
+    let a = named .before .before .args in
+    new-good (a .identifiers .now) (a .place .0) _ (named .identifier-at .ensures) (some .if1 .left) _ (looked .place-of .ensures)
+    (c .enum-told2 .given .1)
 
 pub is-bad-spec : {M : Type 1} → statement M
 is-bad-spec =
     tie.close
     (tie.spec
-    mul-number
-    shared-slice-read-number
+    identifier-at-requires
     returns
-    lookup-requires
+    place-of-requires
     enum-told
     enum-told-2
     returns-2

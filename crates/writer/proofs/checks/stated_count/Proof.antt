@@ -1,11 +1,11 @@
--- `writer::checks::stated_count` meets its contract. The loop's invariant: `stated` counts those before `p`. Assumes nothing.
+-- `writer::checks::stated_count` meets its contract. The loop's invariant: `stated` counts those before `p`.
 use mathlib.Core.Path.{_≡_, refl, ap, _∙_}
 use mathlib.Core.Logic.{⊎-elim}
 use Prim.Native.Nat.{ℕ, _≤_, _-_}
 use native.Mathlib.Omega.{arith}
 use lib.ListN.{length}
 use Rattle.writer.specs.Inner.{statedCount}
-use Rattle.writer.proofs.SceneLaws.{stated-same, stated-more, stated-most}
+use Rattle.writer.proofs.SceneLaws.{counted-same, counted-more, counted-most}
 use Rattle.writer.proofs.checks.stated_count.Statement.{statement}
 use Rattle.writer.proofs.checks.stated_count.Tie as tie
 
@@ -25,7 +25,7 @@ shared-slice-read-if1 c = omega arith
 add-stated : tie.Need-add-stated Inv-loop μ-loop
 add-stated c =
     let turn = c .before .before .before .before in
-    omega (arith, stated-most (turn .before .args .cells .now) (turn .loop .p))
+    omega (arith, counted-most (turn .before .args .cells .now) (turn .loop .p))
 
 add-p : tie.Need-add-p Inv-loop μ-loop
 add-p c = omega arith
@@ -38,7 +38,7 @@ loop-again c =
     let turn = c .before .before .before .before in
     let cells = turn .before .args .cells .now in
     let p = turn .loop .p in
-    (omega arith, ⊎-elim (λ w. omega (arith, stated-more cells p (w .0 .taken))) (λ w. omega (arith, stated-same cells p (w .0 .left))) (c .if1 .came))
+    (omega arith, ⊎-elim (λ w. omega (arith, counted-more cells p (w .0 .taken))) (λ w. omega (arith, counted-same cells p (w .0 .left))) (c .if1 .came))
 
 returns : tie.Need-returns Inv-loop μ-loop
 returns c =

@@ -1,4 +1,4 @@
--- `writer::put::put_region` meets its contract: the kind, and the identifier behind it. Assumes nothing.
+-- `writer::put::put_region` meets its contract: the kind, and the identifier behind it.
 use mathlib.Core.Path.{_∙_}
 use borrow.Author.Needs.{needs}
 use lib.ListN.{length-set}
@@ -23,7 +23,7 @@ same-length c =
 returns : tie.Need-returns
 returns c =
     let s = c .before .before .before .before .before in
-    region-put (s .args .buffer .now) _ (s .args .at) (s .args .identifier) (s .pre) (c .before .before .put-number .ensures)
+    region-put (s .args .buffer .now) _ (s .args .at) (s .args .identifier .0) (s .pre) (c .before .before .put-number .ensures)
 
 pub put-region-spec : {M : Type 1} → statement M
 put-region-spec =

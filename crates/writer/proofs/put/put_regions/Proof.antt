@@ -1,8 +1,9 @@
--- `writer::put::put_regions` meets its contract. The loop's invariant: the records of the places before `place` are put. Assumes nothing.
+-- `writer::put::put_regions` meets its contract. The loop's invariant: the records of the places before `place` are put.
 use mathlib.Core.Path.{_≡_, refl, ap, _∙_}
 use mathlib.Core.List.{List}
 use Prim.Native.Nat.{ℕ, _-_, _≤_}
 use native.Mathlib.Omega.{arith}
+use borrow.Author.Needs.{needs}
 use lib.ListN.{length, take}
 use lib.Seq.{sets, take-all}
 use Rattle.writer.specs.Scene.{regionRecords}
@@ -21,17 +22,15 @@ loop-holds : tie.Need-loop-holds Inv-loop μ-loop
 unfolding regionRecords
 loop-holds c = (omega arith, refl, refl)
 
+identifier-at-requires : tie.Need-identifier-at-requires Inv-loop μ-loop
+identifier-at-requires c κs = search needs
+
 mul-put-region : tie.Need-mul-put-region Inv-loop μ-loop
 mul-put-region c = omega arith
 
-mul-put-region-2 : tie.Need-mul-put-region-2 Inv-loop μ-loop
-mul-put-region-2 c = omega arith
-
-shared-slice-read-put-region : tie.Need-shared-slice-read-put-region Inv-loop μ-loop
-shared-slice-read-put-region c = omega arith
-
 put-region-requires : tie.Need-put-region-requires Inv-loop μ-loop
-put-region-requires c κs = omega (arith, c .before .before .before .before .before .before .pre)
+put-region-requires c κs =
+    let turn = c .before .before .before in omega (arith, turn .before .before .before .pre)
 
 add-place : tie.Need-add-place Inv-loop μ-loop
 add-place c = omega arith
@@ -41,12 +40,15 @@ loop-less c = omega arith
 
 loop-again : tie.Need-loop-again Inv-loop μ-loop
 loop-again c =
-    let turn = c .before .before .before .before .before .before in
+    let put = c .before .before in
+    let named = put .before .before in
+    let turn = named .before .before in
     let a = turn .before .before .before .args in (
       omega arith,
-      c .before .before .put-region .kept .0 ∙ turn .loop .inv .1,
-      region-next (a .identifiers .now) (a .buffer .now) _ _ (turn .loop .place) (omega arith) (turn .loop .inv .2)
-          (c .before .before .put-region .ensures),
+      put .put-region .kept .0 ∙ turn .loop .inv .1,
+      region-next (a .identifiers .now) (a .buffer .now) _ _ (turn .loop .place) _ (omega arith) (named .identifier-at .ensures)
+          (turn .loop .inv .2)
+          (put .put-region .ensures),
     )
 
 same-length : tie.Need-same-length Inv-loop μ-loop
@@ -65,9 +67,8 @@ put-regions-spec =
     Inv-loop
     μ-loop
     loop-holds
+    identifier-at-requires
     mul-put-region
-    mul-put-region-2
-    shared-slice-read-put-region
     put-region-requires
     add-place
     loop-less

@@ -1,4 +1,4 @@
--- `writer::put::put_scene` meets its contract: regions, statements and End, one behind the other. Assumes nothing.
+-- `writer::put::put_scene` meets its contract: regions, statements and End, one behind the other.
 use mathlib.Core.Path.{_∙_}
 use native.Mathlib.Omega.{arith}
 use borrow.Author.Needs.{needs}
@@ -11,7 +11,7 @@ put-regions-requires : tie.Need-put-regions-requires
 put-regions-requires c κs =
     let s = c .before .before .before .before in
     let a = s .args in
-    regions-fit (a .n) (a .identifiers .now) (a .cells .now) (a .buffer .now) (s .pre .0) (s .pre .1)
+    regions-fit (a .n) (a .identifiers .now) (a .cells .now) (a .buffer .now) (s .pre)
 
 mul-put-statements : tie.Need-mul-put-statements
 mul-put-statements c = search needs
@@ -21,8 +21,8 @@ put-statements-requires c κs =
     let regions = c .before .before .before in
     let s = regions .before .before .before .before .before in
     let a = s .args in
-    let fits = statements-fit (a .n) (a .identifiers .now) (a .cells .now) (a .buffer .now) (s .pre .0) (s .pre .1) in
-    record { sized = s .pre .0; fits = omega (arith, fits, regions .put-regions .kept .1 .0) }
+    let fits = statements-fit (a .n) (a .identifiers .now) (a .cells .now) (a .buffer .now) (s .pre) in
+    record { sized = s .pre .sized; fits = omega (arith, fits, regions .put-regions .kept .1 .0) }
 
 slice-write-buffer : tie.Need-slice-write-buffer
 slice-write-buffer c =
@@ -30,7 +30,7 @@ slice-write-buffer c =
     let regions = statements .before .before .before .before in
     let s = regions .before .before .before .before .before in
     let a = s .args in
-    let fits = statements-fit (a .n) (a .identifiers .now) (a .cells .now) (a .buffer .now) (s .pre .0) (s .pre .1) in
+    let fits = statements-fit (a .n) (a .identifiers .now) (a .cells .now) (a .buffer .now) (s .pre) in
     omega (
       arith,
       fits,
@@ -51,7 +51,7 @@ returns c =
     let regions = statements .before .before .before .before in
     let s = regions .before .before .before .before .before in
     let a = s .args in
-    scene-put (a .n) (a .identifiers .now) (a .cells .now) (a .buffer .now) (s .pre .0) (s .pre .1) _ _ _
+    scene-put (a .n) (a .identifiers .now) (a .cells .now) (a .buffer .now) (s .pre) _ _ _
     (regions .put-regions .ensures) (statements .put-statements .ensures)
 
 pub put-scene-spec : {M : Type 1} → statement M

@@ -1,4 +1,4 @@
--- `writer::put::put_statement` meets its contract: the kind, both identifiers and the set, one behind the other. Assumes nothing.
+-- `writer::put::put_statement` meets its contract: the kind, both identifiers and the set, one behind the other.
 use Prim.Native.Nat.{_+_}
 use mathlib.Core.Path.{_∙_}
 use native.Mathlib.Omega.{arith}
@@ -38,7 +38,7 @@ same-length c =
     let second = c .before .before in
     let first = second .before .before .before .before in
     let s = first .before .before .before in
-    length-set (second .put-number2 .last .0) (s .args .at + 9) (s .args .set) ∙ second .put-number2 .kept .0
+    length-set (second .put-number2 .last .0) (s .args .at + 9) (s .args .set .0) ∙ second .put-number2 .kept .0
     ∙ first .put-number .kept .0 ∙ length-set (s .args .buffer .now) (s .args .at) 2
 
 returns : tie.Need-returns
@@ -46,7 +46,7 @@ returns c =
     let second = c .before .before in
     let first = second .before .before .before .before in
     let s = first .before .before .before in
-    statement-put (s .args .buffer .now) _ _ (s .args .at) (s .args .a) (s .args .b) (s .args .set) (s .pre)
+    statement-put (s .args .buffer .now) _ _ (s .args .at) (s .args .a .0) (s .args .b .0) (s .args .set .0) (s .pre)
     (first .put-number .ensures) (second .put-number2 .ensures)
 
 pub put-statement-spec : {M : Type 1} → statement M

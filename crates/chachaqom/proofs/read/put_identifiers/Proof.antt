@@ -1,0 +1,65 @@
+-- `chachaqom::read::put_identifiers` meets its contract. The loop's invariant: the first `place` identifiers stand in front of the
+-- bytes.
+use Prim.Native.Nat.{_-_}
+use native.Mathlib.Omega.{arith}
+use borrow.Author.Needs.{needs}
+use Rattle.chachaqom.proofs.Crossed.{Crossed, crossed-none, crossed-more, crossed-all}
+use Rattle.chachaqom.proofs.read.put_identifiers.Statement.{statement}
+use Rattle.chachaqom.proofs.read.put_identifiers.Tie as tie
+
+abbrev Inv-loop : tie.InvT-loop
+Inv-loop bytes₀ identifiers place₀ bytes place = Crossed identifiers place bytes
+
+abbrev μ-loop : tie.MeasureT-loop
+μ-loop bytes₀ identifiers place₀ bytes place = 64 - place
+
+loop-holds : tie.Need-loop-holds Inv-loop μ-loop
+loop-holds c = crossed-none _ _ (c .before .before .pre .0)
+
+mul-put-number : tie.Need-mul-put-number Inv-loop μ-loop
+mul-put-number c = search needs
+
+mul-put-number-2 : tie.Need-mul-put-number-2 Inv-loop μ-loop
+mul-put-number-2 c = search needs
+
+shared-slice-read-put-number : tie.Need-shared-slice-read-put-number Inv-loop μ-loop
+shared-slice-read-put-number c = search needs
+
+put-number-requires : tie.Need-put-number-requires Inv-loop μ-loop
+put-number-requires c κs = search needs
+
+add-place : tie.Need-add-place Inv-loop μ-loop
+add-place c = search needs
+
+loop-less : tie.Need-loop-less Inv-loop μ-loop
+loop-less c = search needs
+
+loop-again : tie.Need-loop-again Inv-loop μ-loop
+loop-again c =
+    let at-put-number = c .before .before in
+    let at-loop = at-put-number .before .before .before .before in
+    let at-pre = at-loop .before .before .before in
+    crossed-more _ (at-loop .loop .inv) (omega arith) (at-pre .pre .1) (at-put-number .put-number .ensures)
+
+same-length : tie.Need-same-length Inv-loop μ-loop
+same-length c = omega (arith, c .before .loop .inv .long, c .before .before .before .before .pre .0)
+
+returns : tie.Need-returns Inv-loop μ-loop
+returns c = crossed-all (c .before .loop .inv) (omega arith) (c .before .before .before .before .pre .1)
+
+pub put-identifiers-spec : {M : Type 1} → statement M
+put-identifiers-spec =
+    tie.close
+    (tie.spec
+    Inv-loop
+    μ-loop
+    loop-holds
+    mul-put-number
+    mul-put-number-2
+    shared-slice-read-put-number
+    put-number-requires
+    add-place
+    loop-less
+    loop-again
+    same-length
+    returns)

@@ -1,0 +1,47 @@
+-- `chachaqom::refine::chachaqom_refine` meets its contract: by the answer's length, and else by what the refinement left.
+use Rattle.chachaqom.proofs.Promised.{refine-unfit, refine-answered}
+use borrow.Author.Needs.{needs}
+use Rattle.chachaqom.proofs.refine.chachaqom_refine.Statement.{statement}
+use Rattle.chachaqom.proofs.refine.chachaqom_refine.Tie as tie
+
+returns : tie.Need-returns
+returns c = refine-unfit _ _ _ _ _ (c .if1 .taken)
+
+refine-requires : tie.Need-refine-requires
+refine-requires c κs = search needs
+
+of-verdict-requires : tie.Need-of-verdict-requires
+of-verdict-requires c κs = search needs
+
+put-answer-requires : tie.Need-put-answer-requires
+put-answer-requires c κs = search needs
+
+same-length : tie.Need-same-length
+same-length c = search needs
+
+same-length-2 : tie.Need-same-length-2
+same-length-2 c = search needs
+
+same-length-3 : tie.Need-same-length-3
+same-length-3 c = search needs
+
+returns-2 : tie.Need-returns-2
+returns-2 c =
+    let at-put-answer = c .before .before in
+    let at-of-verdict = at-put-answer .before in
+    let at-refine = at-of-verdict .before .before .before .before .before .before in
+    let at-if1 = at-refine .before .before .before in
+    refine-answered (at-if1 .if1 .left) (at-refine .refine .ensures) (at-of-verdict .of-verdict .ensures) (at-put-answer .put-answer .ensures)
+
+pub chachaqom-refine-spec : {M : Type 1} → statement M
+chachaqom-refine-spec =
+    tie.close
+    (tie.spec
+    returns
+    refine-requires
+    of-verdict-requires
+    put-answer-requires
+    same-length
+    same-length-2
+    same-length-3
+    returns-2)

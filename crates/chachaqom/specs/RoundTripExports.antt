@@ -1,0 +1,14 @@
+-- What a host that writes a scene and reads it back must get.
+use mathlib.Core.Path.{_≡_}
+use mathlib.Core.List.{List}
+use Prim.Native.Nat.{ℕ, _*_}
+use lib.ListN.{take}
+use Rattle.lists.specs.BigEndian.{numberAt}
+use Rattle.filing.specs.Areas.{lentCells, padded}
+
+-- the reading is accepted with n regions, and its areas hold the identifiers' bytes and the cells, with zeros behind the cells
+pub record RestoredBytes (n : ℕ) (identifiers cells identifiers′ cells′ answer′ : List ℕ) (number : ℕ) : Type 0 where
+  pub accepted : number ≡ 0
+  pub regions : numberAt answer′ 16 ≡ n
+  pub same-identifiers : take (4 * n) identifiers′ ≡ identifiers
+  pub same-cells : cells′ ≡ padded lentCells cells

@@ -1,0 +1,72 @@
+-- The lent areas that what was said is laid into, and what a call leaves in them.
+use mathlib.Core.Path.{_≡_}
+use mathlib.Core.Bool.{Bool, cond, _&&_}
+use mathlib.Core.List.{List, _++_}
+use Prim.Native.Nat.{ℕ, _-_}
+use lib.Dec.{eqb, leb}
+use lib.ListN.{length, replicate}
+use Rattle.matrix.specs.Square.{mostRegions}
+use Rattle.matrix.specs.Cells.{cell, grid, narrowedCells}
+use Rattle.filing.specs.Said.{Statement, Said}
+use Rattle.filing.specs.Stated.{cellsOf}
+
+-- every area that is lent
+pub record Areas : Type 0 where
+  pub identifiers : List ℕ
+  pub cells : List ℕ
+
+abbrev pub holding : List ℕ → List ℕ → Areas
+holding identifiers cells = record { identifiers = identifiers; cells = cells }
+
+-- how many identifiers are lent, and how many cells
+abbrev pub lentIdentifiers : ℕ
+lentIdentifiers = 64
+
+abbrev pub lentCells : ℕ
+lentCells = 4096
+
+-- areas of these lengths
+pub record Lent (areas : Areas) : Type 0 where
+  pub identifiers-long : length (areas .identifiers) ≡ lentIdentifiers
+  pub cells-long : length (areas .cells) ≡ lentCells
+
+-- the same as a test
+unfoldable pub areLent : Areas → Bool
+areLent areas = eqb (length (areas .identifiers)) lentIdentifiers && eqb (length (areas .cells)) lentCells
+
+-- an area of one and the same entry throughout
+abbrev pub allOf : ℕ → List ℕ → List ℕ
+allOf entry area = replicate (length area) entry
+
+-- before anything is said: no identifier, and every cell the same
+abbrev pub started : ℕ → Areas → Areas
+started start areas = holding (allOf 0 (areas .identifiers)) (allOf start (areas .cells))
+
+-- all 0
+abbrev pub emptied : Areas → Areas
+emptied = started 0
+
+-- after a refusal: as they were after 2, and else all 0
+abbrev pub cleared : ℕ → Areas → Areas
+cleared number areas = cond (eqb number 2) areas (emptied areas)
+
+-- a list and zeros after it, up to a length
+abbrev pub padded : ℕ → List ℕ → List ℕ
+padded size l = l ++ replicate (size - length l) 0
+
+-- after an acceptance: the identifiers by place and the cells in rows of n, and 0 past the last of each
+abbrev pub filled : (ℕ → ℕ → ℕ) → Said → Areas → Areas
+filled start said areas =
+    holding (padded (length (areas .identifiers)) (said .identifiers)) (padded (length (areas .cells)) (cellsOf start said))
+
+-- cells in rows of 64 after one more statement
+abbrev pub filedIn : List ℕ → Statement → List ℕ
+filedIn cells s = narrowedCells mostRegions cells (s .from) (s .to) (s .set)
+
+-- 4,096 cells can be taken as rows of 64, for at most 64 regions
+abbrev pub hasRows : ℕ → List ℕ → Bool
+hasRows n cells = eqb (length cells) lentCells && leb n mostRegions
+
+-- rows of 64 cells as rows of n, and 0 behind them; other cells as they were
+unfoldable pub packed : ℕ → List ℕ → List ℕ
+packed n cells = cond (hasRows n cells) (padded (length cells) (grid n (cell mostRegions cells))) cells

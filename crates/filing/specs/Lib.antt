@@ -1,0 +1,5 @@
+pub mod Said
+pub mod Places
+pub mod Stated
+pub mod Areas
+pub mod Inner

@@ -1,0 +1,4 @@
+pub mod Least
+pub mod Laid
+pub mod BigEndian
+pub mod Inner

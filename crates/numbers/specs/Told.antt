@@ -1,7 +1,0 @@
--- An answer's numbers as the code has them. Assumes nothing.
-use Rattle.answer.specs.Answer.{Answer, answer}
-use Rattle.numbers.specs.declared.Numbers.{Numbers}
-
--- the same five numbers
-abbrev pub told : Numbers → Answer
-told n = answer (n .number) (n .first) (n .second) (n .third) (n .count)

@@ -1,0 +1,67 @@
+-- The class rule on the report itself: in an accepted scene's report every pair's letter is the one that the rule gives.
+use mathlib.Core.Path.{_≡_, ap, _∙_, subst}
+use mathlib.Core.List.{List}
+use Prim.Native.Nat.{ℕ, _<_}
+use native.Mathlib.Omega.{arith}
+use borrow.Fn.Kinds.{Dens, resT, endedOf}
+use contract.Lifetimes.{Lfts}
+use denote.Ref.{now}
+use denote.Triple.Clauses.{AtExit}
+use lib.ListN.{length, take}
+use lib.Seq.{take-all}
+use Rattle.lists.proofs.LaidLaws.{take-laid}
+use Rattle.answer.specs.Ending.{accepted}
+use Rattle.relation.specs.Sets.{size}
+use Rattle.relation.proofs.Size.{size-within, size-some, size-most}
+use Rattle.matrix.specs.Cells.{cell}
+use Rattle.refinement.specs.Network.{Network}
+use Rattle.refinement.specs.Ends.{Ends}
+use Rattle.refinement.specs.Refine.{refine}
+use Rattle.refinement.proofs.Stages.{network-bytes}
+use Rattle.refinement.proofs.Ending.{refine-ends}
+use Rattle.filing.specs.Said.{Said, regions}
+use Rattle.filing.specs.Stated.{cellsOf}
+use Rattle.scene.specs.Reading.{acceptedSaid, readScene}
+use Rattle.scene.specs.Reads.{startingCell}
+use Rattle.report_text.specs.Rule.{Rule}
+use Rattle.report_text.specs.Report.{letter, refinedReport, readReport, reportOf, Reported}
+use Rattle.report_text.specs.Letters.{Shows}
+use Rattle.report_text.proofs.ClassLaws.{class-rule}
+use Rattle.report_text.proofs.report.Kinds as reporting
+use Rattle.report_text.proofs.report.Reads.{Post as Reports}
+
+-- the letter of two cells of a network and of the matrix it lies within
+pub network-letter : {n : ℕ} {stated network : List ℕ} → Network n stated network → (i j : ℕ) → i < n → j < n
+    → Rule (size (cell n stated i j)) (size (cell n network i j)) (letter n stated network i j)
+network-letter {n} {stated} {network} N i j hi hj =
+    class-rule (size (cell n stated i j)) (size (cell n network i j))
+    (size-some (cell n network i j) (network-bytes N .byte i j hi hj) (N .filled i j hi hj))
+    (size-within (N .within .cells i j hi hj))
+    (size-most (cell n stated i j))
+
+module _ {scene buffer buffer′ : List ℕ} {count : ℕ} (call : Reported scene buffer buffer′ count) {said : Said} {network : List ℕ} {rounds : ℕ}
+    (read : readScene scene ≡ acceptedSaid said) (refined : refine (regions said) (cellsOf startingCell said) ≡ accepted network rounds) where
+  abbrev n : ℕ
+  n = regions said
+
+  abbrev stated : List ℕ
+  stated = cellsOf startingCell said
+
+  pub report-shows : Shows (regions said) (said .identifiers) (cellsOf startingCell said) network rounds count buffer′
+  unfolding reportOf
+  report-shows =
+      let printed : reportOf scene ≡ readReport (acceptedSaid said) = ap readReport read in
+      let whole : count ≡ length (reportOf scene) = call .size in
+      record {
+        text = ap (take count) (call .text) ∙ take-laid count (reportOf scene) buffer (omega arith)
+            ∙ take-all count (reportOf scene) (omega arith) ∙ printed ∙ ap (refinedReport n (said .identifiers) stated) refined;
+        rule = λ i j h hj.
+            network-letter (subst (Ends n stated) refined (refine-ends n stated) .largest .network) i j (omega arith) hj;
+      }
+
+-- about the call itself
+pub report-call-shows : (κs : Lfts 2) (a : Dens κs reporting.ps) (count : resT reporting.r κs .Denot)
+    (s : AtExit (endedOf 2 reporting.ps reporting.r) κs) → Reports κs a count s → {said : Said} {network : List ℕ} {rounds : ℕ}
+    → readScene (now (a .0)) ≡ acceptedSaid said → refine (regions said) (cellsOf startingCell said) ≡ accepted network rounds
+    → Shows (regions said) (said .identifiers) (cellsOf startingCell said) network rounds count (now (s .1 .0))
+report-call-shows κs a count s call read refined = report-shows call read refined

@@ -1,0 +1,20 @@
+-- How far two scenes agree for a refusal to be that of both.
+use mathlib.Core.Path.{_≡_}
+use mathlib.Core.List.{List}
+use Prim.Native.Nat.{ℕ, _+_, _≤_, _<_}
+use lib.ListN.{length, getD}
+use Rattle.scene.specs.Format.{lengthOf}
+
+-- the first bytes of two scenes are the same
+pub record Agree (count : ℕ) (scene other : List ℕ) : Type 0 where
+  pub there : count ≤ length other
+  pub same : (k : ℕ) → k < count → getD scene k 0 ≡ getD other k 0
+
+-- up to the record's full length; to the first byte left over for 11; and for 4 to the kind, where the record is cut short in the
+-- other scene too
+pub data Alike (scene other : List ℕ) : ℕ → ℕ → Type 0 where
+  whole-alike : {number offset : ℕ} → (number ≡ 4 → ⊥) → (number ≡ 11 → ⊥) → Agree (offset + lengthOf (getD scene offset 0)) scene other
+      → Alike scene other number offset
+  rest-alike : {offset : ℕ} → Agree (offset + 1) scene other → Alike scene other 11 offset
+  cut-alike : {offset : ℕ} → offset < length scene → Agree (offset + 1) scene other
+      → length other < offset + lengthOf (getD scene offset 0) → Alike scene other 4 offset
