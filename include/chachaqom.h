@@ -109,7 +109,7 @@ enum {
 
 /* Bytes of stack that a call uses at most. */
 enum {
-    CHACHAQOM_REFINE_STACK = 1024,
+    CHACHAQOM_REFINE_STACK = 3072,
     CHACHAQOM_READ_STACK = 1024,
     CHACHAQOM_WRITE_STACK = 1024
 };

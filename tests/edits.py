@@ -25,14 +25,15 @@ SHAPE = re.compile(r"that can be named from here|has no field|no `Need-|is not a
 def first_error(log, where):
     """Where the check of an edit stopped, the fact that failed there, and the error's text."""
     text = log.read_text(errors="replace")
-    found = ERROR.search(text)
-    if found:
-        path, said = found.groups()
+    unmade = UNMADE.search(text)
+    # A caller whose callee is not proved is not admitted either: that only follows from the callee's own failure.
+    errors = [found.groups() for found in ERROR.finditer(text) if "was not admitted" not in found.group(2)]
+    if errors:
+        path, said = errors[0]
         path = path.replace(str(where) + "/", "")
         place = re.sub(r"^proofs/|/Proof\.antt$|\.antt$", "", path)
         need = re.match(r"`([^`]+)`", said)
         return place, need.group(1) if need else "?", said
-    unmade = UNMADE.search(text)
     if unmade:
         return unmade.group(1).replace("::", "/"), unmade.group(2), ""
     return "?", "?", "no error was printed"

@@ -1,6 +1,7 @@
 #!/usr/bin/env python3
-"""table.py [TOP]: compares Table 1 of document 004, here in the document's letters, with the table of the
-definition and with the table of the code. TOP is the repository's top, by default the folder above this script's."""
+"""table.py [TOP]: compares Table 1 of document 004, here in the document's letters, with the table of the definition, and each of the
+2,048 entries of the code's table with the union of the letters that it stands for. TOP is the repository's top, by default the folder
+above this script's."""
 import os
 import re
 import sys
@@ -53,6 +54,31 @@ def rows_after(path, start, end, row):
     return [[int(number) for number in re.findall(r"\d+", found)] for found in re.findall(row, part)]
 
 
+def union(sets):
+    """The set of the members of any of the sets."""
+    members = 0
+    for found in sets:
+        members |= found
+    return members
+
+
+def composed(left, right, wanted):
+    """A set composed with one relation, by Table 1."""
+    return union(wanted[p][right] for p in range(8) if left >> p & 1)
+
+
+def entry_differences(name, rows, wanted):
+    """A line for each of the code's entries, eight to a left set, that is not what Table 1 makes of it."""
+    entries = [number for row in rows for number in row]
+    if len(entries) != 256 * 8:
+        return [name + ": not 2,048 entries, but " + str(len(entries))]
+    return [
+        f"{name}: set {place // 8} composed with {ORDER[place % 8]} is {entry}, by Table 1 {composed(place // 8, place % 8, wanted)}"
+        for place, entry in enumerate(entries)
+        if entry != composed(place // 8, place % 8, wanted)
+    ]
+
+
 def differences(name, rows, wanted):
     """A line for each entry in which a table differs from Table 1."""
     if [len(row) for row in rows] != [8] * 8:
@@ -70,21 +96,21 @@ def main():
     top = sys.argv[1] if len(sys.argv) > 1 else os.path.dirname(here)
     crate = os.path.join(top, "crates", "relation")
     wanted = document_rows()
-    tables = {
-        "specs/Composition.antt": ("\nrows =\n", "\n\n", r"\(([^()]*)\)"),
-        "src/lib.rt": ("const COMPOSITION: [[u8; 8]; 8] = [\n", "\n];", r"\[([^\[\]]*)\]"),
-    }
+    tables = [
+        ("specs/Composition.antt", ("\nrows =\n", "\n\n", r"\(([^()]*)\)"), differences),
+        ("src/table.rt", ("const COMPOSITIONS: [u8; 2048] = [\n", "\n];", r"(?m)^ *(\d+),"), entry_differences),
+    ]
     found = []
-    for name, marks in tables.items():
+    for name, marks, compare in tables:
         try:
-            found += differences(name, rows_after(os.path.join(crate, name), *marks), wanted)
+            found += compare(name, rows_after(os.path.join(crate, name), *marks), wanted)
         except (OSError, ValueError) as wrong:
             found.append(name + ": " + str(wrong))
     for line in found:
         print(line)
     if found:
         sys.exit(1)
-    print("table: 64 entries agree")
+    print("table: 64 entries of the definition and 2,048 of the code agree")
 
 
 if __name__ == "__main__":

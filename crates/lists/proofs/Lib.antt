@@ -2,6 +2,8 @@
 pub mod Splits
 pub mod Sums
 pub mod LeastLaws
+-- a list by a rule for its entries
+pub mod TabledLaws
 -- areas filled in front
 pub mod LaidLaws
 pub mod Filling

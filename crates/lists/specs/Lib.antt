@@ -1,4 +1,5 @@
 pub mod Least
 pub mod Laid
+pub mod Tabled
 pub mod BigEndian
 pub mod Inner

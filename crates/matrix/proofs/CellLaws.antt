@@ -1,10 +1,10 @@
 -- The cells of a matrix by place and by row and column, matrices that are equal by their cells, and what the searches for the
 -- first empty and the first changed cell say.
-use mathlib.Core.Path.{_≡_, refl, sym, ap, _∙_, subst}
+use mathlib.Core.Path.{_≡_, sym, ap, _∙_, subst}
 use mathlib.Core.Bool.{Bool, true, false, not, true≢false}
 use mathlib.Core.List.{List}
 use Prim.Native.Nat.{ℕ, zero, suc, _+_, _*_, _≤_, _<_}
-use native.Mathlib.Nat.{le-trans, le-of-suc-le-suc, not-suc-le-zero, zero-add, add-zero, div-lt-iff-lt-mul, mod-lt, div-add-mod', mul-add-div-right, div-eq-of-lt, mul-add-mod-self-right, mod-eq-of-lt, mul-le-mul-right}
+use native.Mathlib.Nat.{le-trans, not-suc-le-zero, zero-add, add-zero, div-lt-iff-lt-mul, mod-lt, div-add-mod', mul-add-div-right, div-eq-of-lt, mul-add-mod-self-right, mod-eq-of-lt, mul-le-mul-right}
 use native.Mathlib.Omega.{arith}
 use lib.Dec.{eqb}
 use lib.ListN.{length, getD, set}
@@ -13,9 +13,10 @@ use borrow.Author.Tests.{eqb-true, eqb-false, eq-eqb, ne-eqb, le-leb, lt-leb, lt
 use Rattle.lists.specs.Least.{least}
 use Rattle.lists.proofs.Splits.{split-lt}
 use Rattle.lists.proofs.LeastLaws.{least-is}
+use Rattle.lists.proofs.TabledLaws.{length-tabled, getD-tabled}
 use Rattle.relation.specs.Sets.{intersect}
 use Rattle.matrix.specs.Square.{inRange, hasSquare}
-use Rattle.matrix.specs.Cells.{cell, row, column, listFrom, grid, firstEmpty, firstChange, cellOrEmpty, narrowedCells}
+use Rattle.matrix.specs.Cells.{cell, row, column, grid, firstEmpty, firstChange, cellOrEmpty, narrowedCells}
 
 -- ---- places, rows and columns
 
@@ -47,25 +48,14 @@ place-above n i j k l h hj = omega (arith, mul-le-mul-right n h)
 
 -- ---- cells
 
-length-from : (count start : ℕ) (f : ℕ → ℕ) → length (listFrom count start f) ≡ count
-unfolding listFrom
-length-from zero start f = refl
-length-from (suc count) start f = ap suc (length-from count (suc start) f)
-
-getD-from : (count start : ℕ) (f : ℕ → ℕ) (p : ℕ) → p < count → getD (listFrom count start f) p 0 ≡ f (start + p)
-unfolding listFrom
-getD-from zero start f p h = absurd (not-suc-le-zero h)
-getD-from (suc count) start f zero h = ap f (sym (add-zero start))
-getD-from (suc count) start f (suc p) h = getD-from count (suc start) f p (le-of-suc-le-suc h) ∙ ap f (omega arith)
-
 pub length-grid : (n : ℕ) (f : ℕ → ℕ → ℕ) → length (grid n f) ≡ n * n
 unfolding grid
-length-grid n f = length-from (n * n) 0 (λ p. f (row n p) (column n p))
+length-grid n f = length-tabled (n * n) 0 (λ p. f (row n p) (column n p))
 
 pub at-place : (n : ℕ) (f : ℕ → ℕ → ℕ) (p : ℕ) → p < n * n → getD (grid n f) p 0 ≡ f (row n p) (column n p)
 unfolding grid
 at-place n f p h =
-    getD-from (n * n) 0 (λ q. f (row n q) (column n q)) p h ∙ ap (λ (q : ℕ). f (row n q) (column n q)) (zero-add p)
+    getD-tabled (n * n) 0 (λ q. f (row n q) (column n q)) p h ∙ ap (λ (q : ℕ). f (row n q) (column n q)) (zero-add p)
 
 pub cell-grid : (n : ℕ) (f : ℕ → ℕ → ℕ) (i j : ℕ) → i < n → j < n → cell n (grid n f) i j ≡ f i j
 cell-grid n f i j hi hj =

@@ -1,10 +1,11 @@
 -- A matrix of n regions is the list of its cells, row by row: cell (i, j) speaks of region i towards region j.
-use Prim.Native.Nat.{ℕ, zero, suc, _+_, _*_, _/_, _%_}
+use Prim.Native.Nat.{ℕ, _+_, _*_, _/_, _%_}
 use mathlib.Core.Bool.{Bool, not, cond, _&&_}
-use mathlib.Core.List.{List, [], _∷_}
+use mathlib.Core.List.{List}
 use lib.Dec.{eqb, ltb, leb}
 use lib.ListN.{getD, set}
 use Rattle.lists.specs.Least.{least}
+use Rattle.lists.specs.Tabled.{tabled}
 use Rattle.relation.specs.Sets.{empty, intersect}
 use Rattle.matrix.specs.Square.{mostRegions}
 
@@ -19,14 +20,9 @@ row n p = p / n
 abbrev pub column : ℕ → ℕ → ℕ
 column n p = p % n
 
--- f start, f (start + 1), .. : `count` of them
-unfoldable pub listFrom : ℕ → ℕ → (ℕ → ℕ) → List ℕ
-listFrom zero start f = []
-listFrom (suc count) start f = f start ∷ listFrom count (suc start) f
-
 -- the matrix whose cell (i, j) is f i j
 unfoldable pub grid : ℕ → (ℕ → ℕ → ℕ) → List ℕ
-grid n f = listFrom (n * n) 0 (λ p. f (row n p) (column n p))
+grid n f = tabled (n * n) 0 (λ p. f (row n p) (column n p))
 
 -- the first empty cell in row order among the first `count` cells, as its place in the list; `count` if there is none
 unfoldable pub firstEmpty : ℕ → List ℕ → ℕ

@@ -17,8 +17,9 @@ use Rattle.refinement.specs.Round.{through, ranOut}
 use Rattle.refinement.proofs.Stages.{through-more}
 
 -- two sets composed by the listed entries
-pub composed-by-listed : {entries : List ℕ} {a b x y r : ℕ} → entries ≡ listed → x ≡ a → y ≡ b → r ≡ composeBy entries x y → r ≡ compose a b
-composed-by-listed {entries} {a} {b} e f g h = h ∙ rw (e, f, g) (compose-listed a b)
+pub composed-by-listed : {entries : List ℕ} {a b x y r : ℕ} → entries ≡ listed → x < 256 → x ≡ a → y ≡ b → r ≡ composeBy entries x y
+    → r ≡ compose a b
+composed-by-listed {x = x} {y = y} e byte f g h = h ∙ rw (← f, ← g, e) (compose-listed x y byte)
 
 -- the intersection with one place more
 pub through-next : (n : ℕ) (m : List ℕ) (i j k set along next : ℕ) → set ≡ through n m i j k

@@ -5,7 +5,8 @@ use Rattle.relation.specs.Sets.{has, unionOf, over}
 use Rattle.relation.specs.Converse.{flip, converse}
 use Rattle.relation.specs.Composition.{rows, table, compose}
 use Rattle.matrix.specs.Square.{inRange, hasSquare}
-use Rattle.matrix.specs.Cells.{listFrom, grid, firstEmpty, firstChange}
+use Rattle.lists.specs.Tabled.{tabled}
+use Rattle.matrix.specs.Cells.{grid, firstEmpty, firstChange}
 use Rattle.refinement.specs.Node.{node, emptyRegion}
 use Rattle.refinement.specs.Arc.{arc}
 use Rattle.refinement.specs.Prepare.{preparation}
@@ -17,7 +18,7 @@ use Rattle.refinement.specs.Cases.{state, holds, sameNumbers, fits, righ
 computed : T (allRight cases) × T (allRight fourRegions)
 unfolding cases fourRegions case allRight right fits sameNumbers holds state
     refined refine preparation rounds stepOf mostRounds node emptyRegion arc round through ranOut
-    inRange hasSquare grid listFrom firstEmpty firstChange least leastFrom
+    inRange hasSquare grid tabled firstEmpty firstChange least leastFrom
     converse flip compose table rows over unionOf has
 computed = (tt, tt)
 

@@ -1,13 +1,16 @@
 -- The laws of the composition of two sets, each for all sets for which it holds.
-use Prim.Native.Nat.{ℕ, _+_, _*_, _<_}
-use mathlib.Core.Path.{_≡_, sym, _∙_, subst}
+use Prim.Native.Nat.{ℕ, _+_, _*_, _/_, _%_, _<_}
+use mathlib.Core.Path.{_≡_, sym, ap, _∙_, subst}
+use native.Mathlib.Nat.{zero-add}
+use native.Mathlib.Omega.{arith}
 use lib.Dec.{T, lit<}
 use lib.ListN.{getD}
 use Rattle.relation.specs.Relations.{equal}
 use Rattle.relation.specs.Sets.{has, only, empty, universal, unite, over, Within}
 use Rattle.relation.specs.Converse.{flip, converse}
 use Rattle.relation.specs.Composition.{table, compose}
-use Rattle.relation.specs.Lent.{listed, composeBy}
+use Rattle.lists.proofs.TabledLaws.{getD-tabled}
+use Rattle.relation.specs.Lent.{entryAt, listed, composeBy}
 use Rattle.relation.proofs.Member.{members-over, only-has, only-has-one, some-member}
 use Rattle.relation.proofs.Over.{over-part, over-same, over-only, over-onlys, over-empties, over-empty, over-over, over-swap, over-unite, over-unites, over-constant, over-byte}
 use Rattle.relation.proofs.Entries.{entry}
@@ -87,12 +90,24 @@ pub compose-loop : (a : ℕ) → a < 256 → (a ≡ empty → ⊥) → Within (o
 compose-loop a h n =
     members-within (λ r t. subst (λ (x : ℕ). T (has (compose a (converse a)) x)) (sym (only-has-one equal r t)) (loops-to-equal a h n))
 
--- by the listed entries a set composes as by the table
-pub compose-listed : (a b : ℕ) → composeBy listed a b ≡ compose a b
+-- ---- by the table that is lent
+
+-- an entry of the list is a set composed with one relation
+listed-at : (a q : ℕ) → a < 256 → q < 8 → getD listed (8 * a + q) 0 ≡ over a (λ p. table p q)
+unfolding listed
+listed-at a q h l =
+    let set : (8 * a + q) / 8 ≡ a = omega arith in
+    let relation : (8 * a + q) % 8 ≡ q = omega arith in
+    getD-tabled 2048 0 entryAt (8 * a + q) (omega arith)
+    ∙ ap entryAt (zero-add (8 * a + q))
+    ∙ rw (set, relation)
+
+-- by the listed entries a set composes as by the 64 compositions
+pub compose-listed : (a b : ℕ) → a < 256 → composeBy listed a b ≡ compose a b
 unfolding composeBy compose
-compose-listed a b =
-    over-same a (λ p. over b (λ q. getD listed (8 * p + q) 0)) (along b)
-    (λ p hp. over-same b (λ q. getD listed (8 * p + q) 0) (λ q. table p q) (λ q hq. entry p q hp hq .listed-at))
+compose-listed a b h =
+    over-same b (λ q. getD listed (8 * a + q) 0) (λ q. over a (λ p. table p q)) (λ q l. listed-at a q h l)
+    ∙ sym (over-swap a b (λ p q. table p q))
 
 -- ---- a set that is not empty, composed with the universal set
 

@@ -1,22 +1,18 @@
 -- The laws of the table of compositions and of the converse, by one test over the 64 entries, which antt computes.
-use Prim.Native.Nat.{ℕ, _+_, _*_, _/_, _%_, _<_}
-use mathlib.Core.Path.{_≡_, ap, _∙_}
+use Prim.Native.Nat.{ℕ, _<_}
+use mathlib.Core.Path.{_≡_}
 use mathlib.Core.Bool.{Bool}
 use mathlib.Core.List.{List, [], _∷_}
-use native.Mathlib.Omega.{arith}
 use lib.Dec.{T, eqb, eqb→eq, ltb, ltb→lt}
-use lib.ListN.{getD}
 use Rattle.relation.specs.Relations.{equal}
 use Rattle.relation.specs.Sets.{has, only, universal, unionOf, over}
 use Rattle.relation.specs.Converse.{flip, converse}
 use Rattle.relation.specs.Composition.{rows, table}
-use Rattle.relation.specs.Lent.{listed}
 use Rattle.relation.proofs.Tests.{all, all-at, every, each}
 
 -- what holds of the relations p and q and their composition
 pub record Entry (p q : ℕ) : Type 0 where
   pub byte : table p q < 256
-  pub listed-at : getD listed (8 * p + q) 0 ≡ table p q
   pub reversed : converse (table p q) ≡ table (flip q) (flip p)
   pub from-equal : table equal q ≡ only q
   pub to-equal : table p equal ≡ only p
@@ -29,7 +25,6 @@ pub record Entry (p q : ℕ) : Type 0 where
 tests : ℕ → ℕ → List Bool
 tests p q =
     ltb (table p q) 256
-    ∷ eqb (getD listed (8 * p + q) 0) (table p q)
     ∷ eqb (converse (table p q)) (table (flip q) (flip p))
     ∷ eqb (table equal q) (only q)
     ∷ eqb (table p equal) (only p)
@@ -41,7 +36,7 @@ tests p q =
     ∷ []
 
 tested : T (all 8 (λ p. all 8 (λ q. every (tests p q))))
-unfolding all every tests table rows listed flip converse over unionOf has
+unfolding all every tests table rows flip converse over unionOf has
 tested = tt
 
 pub entry : (p q : ℕ) → p < 8 → q < 8 → Entry p q
@@ -50,19 +45,12 @@ entry p q hp hq =
     let t = each (tests p q) (all-at 8 (λ q. every (tests p q)) (all-at 8 (λ p. all 8 (λ q. every (tests p q))) tested p hp) q hq) in
     record {
       byte = ltb→lt _ _ (t .0);
-      listed-at = eqb→eq _ _ (t .1 .0);
-      reversed = eqb→eq _ _ (t .1 .1 .0);
-      from-equal = eqb→eq _ _ (t .1 .1 .1 .0);
-      to-equal = eqb→eq _ _ (t .1 .1 .1 .1 .0);
-      loops = t .1 .1 .1 .1 .1 .0;
-      row-universal = eqb→eq _ _ (t .1 .1 .1 .1 .1 .1 .0);
-      column-universal = eqb→eq _ _ (t .1 .1 .1 .1 .1 .1 .1 .0);
-      twice = eqb→eq _ _ (t .1 .1 .1 .1 .1 .1 .1 .1 .0);
-      below = ltb→lt _ _ (t .1 .1 .1 .1 .1 .1 .1 .1 .1 .0);
+      reversed = eqb→eq _ _ (t .1 .0);
+      from-equal = eqb→eq _ _ (t .1 .1 .0);
+      to-equal = eqb→eq _ _ (t .1 .1 .1 .0);
+      loops = t .1 .1 .1 .1 .0;
+      row-universal = eqb→eq _ _ (t .1 .1 .1 .1 .1 .0);
+      column-universal = eqb→eq _ _ (t .1 .1 .1 .1 .1 .1 .0);
+      twice = eqb→eq _ _ (t .1 .1 .1 .1 .1 .1 .1 .0);
+      below = ltb→lt _ _ (t .1 .1 .1 .1 .1 .1 .1 .1 .0);
     }
-
--- the list read from its first place on
-pub listed-entry : (at : ℕ) → at < 64 → getD listed at 0 ≡ table (at / 8) (at % 8)
-listed-entry at h =
-    ap (λ (k : ℕ). getD listed k 0) (omega arith)
-    ∙ entry (at / 8) (at % 8) (omega arith) (omega arith) .listed-at

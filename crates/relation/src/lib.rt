@@ -1,61 +1,27 @@
 // Sets of the eight relations between two regions, each set one byte: membership, intersection, converse, composition.
 // Every method is total; what each answers is a definition of specs/.
+mod table;
+
+use table::COMPOSITIONS;
 ghost use mathlib.Core.Path.{_≡_};
 ghost use mathlib.Core.List.{[], _∷_};
-ghost use Prim.Native.Nat.{_+_, _≤_};
 ghost use lib.Dec.{eqb};
-ghost use lib.ListN.{getD};
 ghost use Rattle.relation.specs.Relations.{disjoint, meet, equal, inside, coveredBy, contains, covers, overlap};
-ghost use Rattle.relation.specs.Sets.{has, only, empty, universal, intersect, subset, size, over};
+ghost use Rattle.relation.specs.Sets.{has, only, empty, universal, intersect, subset, size};
 ghost use Rattle.relation.specs.Converse.{converse};
 ghost use Rattle.relation.specs.Composition.{compose};
 ghost use Rattle.relation.specs.Lent.{listed, composeBy};
 
 pub struct RelationSet(pub u8);
 
-// The composition of single relations, row first, columns in bit order.
-const COMPOSITION: [[u8; 8]; 8] = [
-    [255, 155, 1, 155, 155, 1, 1, 155],
-    [227, 215, 2, 152, 154, 1, 3, 155],
-    [1, 2, 4, 8, 16, 32, 64, 128],
-    [1, 1, 8, 8, 8, 255, 155, 155],
-    [1, 3, 16, 8, 24, 227, 215, 155],
-    [227, 224, 32, 252, 224, 32, 32, 224],
-    [227, 226, 64, 152, 212, 32, 96, 224],
-    [227, 227, 128, 152, 152, 227, 227, 255],
-];
+// The table that composing reads: a set on the left, a single relation on the right.
+pub type Compositions = [u8; 2048];
 
-// The table that composing reads.
-pub type Compositions = [u8; 64];
-
-// The 64 compositions in one piece, to be made once and lent: a constant is filled anew wherever it is named.
+// The table, to be made once for a whole call and lent: a constant is filled anew wherever it is named.
 pub fn compositions() -> Compositions
     ensures { λ r. ⌜ r ≡ listed ⌝ }
 {
-    let rows = COMPOSITION;
-    let mut entries = [0u8; 64];
-    let mut at: usize = 0;
-    while at < 64 {
-        entries[at] = rows[at / 8][at % 8];
-        at += 1;
-    }
-    entries
-}
-
-// The union of the entries of one row, from its first entry on, over the members of a set.
-fn row_union(entries: &Compositions, from: usize, set: RelationSet) -> u8
-    requires { ⌜ from ≤ 56 ⌝ }
-    ensures { λ r. ⌜ r ≡ over (set .0) (λ q. getD (now (entries .entry)) (from + q) 0) ⌝ }
-{
-    let mut union: u8 = 0;
-    let mut q: usize = 0;
-    while q < 8 {
-        if set.has(q) {
-            union = union | entries[from + q];
-        }
-        q += 1;
-    }
-    union
+    COMPOSITIONS
 }
 
 impl RelationSet {
@@ -143,17 +109,19 @@ impl RelationSet {
         RelationSet(set / 128 * 128 + up + down + set % 8)
     }
 
-    // The composition by entries that the caller lends; by those of `compositions` it is the composition of the two sets.
+    // The composition by a table that the caller lends, in at most eight reads; by that of `compositions` it is the composition of
+    // the two sets.
     pub fn compose_by(self, entries: &Compositions, other: Self) -> Self
         ensures { λ r. ⌜ r .0 ≡ composeBy (now (entries .entry)) (self .0) (other .0) ⌝ }
     {
+        let from = 8 * (self.0 as usize);
         let mut union: u8 = 0;
-        let mut p: usize = 0;
-        while p < 8 {
-            if self.has(p) {
-                union = union | row_union(entries, 8 * p, other);
+        let mut q: usize = 0;
+        while q < 8 {
+            if other.has(q) {
+                union = union | entries[from + q];
             }
-            p += 1;
+            q += 1;
         }
         RelationSet(union)
     }

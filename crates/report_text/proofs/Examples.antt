@@ -7,7 +7,8 @@ use Rattle.region.specs.Lookup.{firstHolding, lookupOf}
 use Rattle.relation.specs.Sets.{has, unionOf, over, membersBelow, size}
 use Rattle.relation.specs.Converse.{flip, converse}
 use Rattle.relation.specs.Composition.{rows, table, compose}
-use Rattle.matrix.specs.Cells.{listFrom, grid, firstEmpty, firstChange}
+use Rattle.lists.specs.Tabled.{tabled}
+use Rattle.matrix.specs.Cells.{grid, firstEmpty, firstChange}
 use Rattle.refinement.specs.Node.{node, emptyRegion}
 use Rattle.refinement.specs.Arc.{arc}
 use Rattle.refinement.specs.Round.{through, round, ranOut}
@@ -43,7 +44,7 @@ example-text =
     ++ (57 ∷ 32 ∷ 52 ∷ 32 ∷ 56 ∷ 32 ∷ 79 ∷ 10 ∷ [])
 
 pub example-report : reportOf (example 4) ≡ example-text
-unfolding reportOf pairLines classOf line decimalUpTo readScene readFrom recordAt judgedRegion judgedStatement judgedEnd placeOf lengthOf lookupOf firstHolding statedCell grid listFrom refine preparation stepOf node emptyRegion arc rounds round through ranOut mostRounds firstEmpty firstChange least leastFrom has unionOf over membersBelow size flip converse rows table compose example example-text
+unfolding reportOf pairLines classOf line decimalUpTo readScene readFrom recordAt judgedRegion judgedStatement judgedEnd placeOf lengthOf lookupOf firstHolding statedCell grid tabled refine preparation stepOf node emptyRegion arc rounds round through ranOut mostRounds firstEmpty firstChange least leastFrom has unionOf over membersBelow size flip converse rows table compose example example-text
 example-report = refl
 
 -- with the third identifier 9 as well: `refused 7 10 0 0` and a line feed

@@ -4,7 +4,8 @@ use mathlib.Core.List.{List, [], _∷_, _++_}
 use Prim.Native.Nat.{ℕ}
 use Rattle.lists.specs.Least.{leastFrom, least}
 use Rattle.region.specs.Lookup.{firstHolding, lookupOf}
-use Rattle.matrix.specs.Cells.{listFrom, grid}
+use Rattle.lists.specs.Tabled.{tabled}
+use Rattle.matrix.specs.Cells.{grid}
 use Rattle.filing.specs.Said.{Said}
 use Rattle.filing.specs.Places.{placeOf}
 use Rattle.filing.specs.Stated.{statedCell, cellsOf}
@@ -31,7 +32,7 @@ unfolding readScene readFrom recordAt judgedRegion judgedStatement judgedEnd len
 example-accepted = refl
 
 pub example-cells : cellsOf startingCell example-says ≡ 255 ∷ 8 ∷ 255 ∷ 255 ∷ 255 ∷ 8 ∷ 255 ∷ 255 ∷ 255 ∷ []
-unfolding grid listFrom statedCell example-says
+unfolding grid tabled statedCell example-says
 example-cells = refl
 
 -- with the third identifier 9 as well, 9 is declared twice

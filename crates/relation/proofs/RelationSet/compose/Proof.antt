@@ -1,5 +1,6 @@
 -- `relation::RelationSet::compose` meets its contract: the entries lent are the listed ones.
 use Prim.Native.Nat.{ℕ}
+use native.Mathlib.Omega.{arith}
 use mathlib.Core.Path.{ap, _∙_}
 use mathlib.Core.List.{List}
 use borrow.Author.Needs.{needs}
@@ -19,7 +20,7 @@ returns c =
     let args = c .before .before .before .args in
     c .compose-by .ensures
     ∙ ap (λ (l : List ℕ). composeBy l (args .self .0) (args .other .0)) (c .before .before .compositions .ensures)
-    ∙ compose-listed (args .self .0) (args .other .0)
+    ∙ compose-listed (args .self .0) (args .other .0) (omega arith)
 
 pub compose-spec : {M : Type 1} → statement M
 compose-spec = tie.close (tie.spec compositions-requires compose-by-requires returns)

@@ -1,41 +1,46 @@
--- `relation::RelationSet::compose_by` meets its contract. The loop's invariant: union is the union over the members of self below p.
+-- `relation::RelationSet::compose_by` meets its contract. The loop's invariant: union is the union over the members of other below q.
 use Prim.Native.Nat.{ℕ, _+_, _*_, _≤_, _-_}
-use mathlib.Core.Path.{_≡_, sym, ap, _∙_}
+use mathlib.Core.Path.{_≡_, sym, _∙_}
 use mathlib.Core.List.{List}
 use mathlib.Core.Logic.{⊎-elim}
 use native.Mathlib.Omega.{arith}
 use lib.ListN.{getD}
 use borrow.Author.Needs.{needs}
-use Rattle.relation.specs.Sets.{unite, over}
 use Rattle.relation.specs.Lent.{composeBy}
 use Rattle.relation.proofs.Over.{upto, upto-none, upto-taken, upto-left, upto-all}
 use Rattle.relation.proofs.RelationSet.compose_by.Statement.{statement}
 use Rattle.relation.proofs.RelationSet.compose_by.Tie as tie
 
--- relation p composed with the set b by the entries
-abbrev along : List ℕ → ℕ → ℕ → ℕ
-along entries b p = over b (λ q. getD entries (8 * p + q) 0)
+-- the row of the entries that begins at from
+abbrev row : List ℕ → ℕ → ℕ → ℕ
+row entries from q = getD entries (from + q) 0
 
 abbrev Inv-loop : tie.InvT-loop
-Inv-loop self entries other union₀ p₀ union p = (p ≤ 8) × (union ≡ upto (self .0) (along entries (other .0)) p)
+Inv-loop entries other from union₀ q₀ union q = (q ≤ 8) × (union ≡ upto (other .0) (row entries from) q)
 
 abbrev μ-loop : tie.MeasureT-loop
-μ-loop self entries other union₀ p₀ union p = 8 - p
+μ-loop entries other from union₀ q₀ union q = 8 - q
+
+cast-from : tie.Need-cast-from Inv-loop μ-loop
+cast-from c = search needs
+
+mul-from : tie.Need-mul-from Inv-loop μ-loop
+mul-from c = search needs
 
 loop-holds : tie.Need-loop-holds Inv-loop μ-loop
-loop-holds c = (search needs, upto-none (c .args .self .0) (along (c .args .entries .now) (c .args .other .0)))
+loop-holds c = (search needs, upto-none (c .before .args .other .0) (row (c .before .args .entries .now) (8 * c .before .args .self .0)))
 
 has-requires : tie.Need-has-requires Inv-loop μ-loop
 has-requires c κs = search needs
 
-mul-row-union : tie.Need-mul-row-union Inv-loop μ-loop
-mul-row-union c = search needs
+add-union : tie.Need-add-union Inv-loop μ-loop
+add-union c = search needs
 
-row-union-requires : tie.Need-row-union-requires Inv-loop μ-loop
-row-union-requires c κs = search needs
+element-copy-out-union : tie.Need-element-copy-out-union Inv-loop μ-loop
+element-copy-out-union c = search needs
 
-add-p : tie.Need-add-p Inv-loop μ-loop
-add-p c = search needs
+add-q : tie.Need-add-q Inv-loop μ-loop
+add-q c = search needs
 
 loop-less : tie.Need-loop-less Inv-loop μ-loop
 loop-less c = search needs
@@ -43,22 +48,21 @@ loop-less c = search needs
 loop-again : tie.Need-loop-again Inv-loop μ-loop
 loop-again c =
     let at = c .before .before .before in
-    let s = at .before .args .self .0 in
-    let f = along (at .before .args .entries .now) (at .before .args .other .0) in (
+    let args = at .before .before .args in
+    let s = args .other .0 in
+    let f = row (args .entries .now) (8 * args .self .0) in (
       search needs,
-      ⊎-elim (λ w.
-          w .2 ∙ ap (unite (at .loop .union)) (w .1 .ensures)
-          ∙ upto-taken s f (at .loop .p) (at .loop .union) (at .loop .inv .1) (sym (c .before .has .ensures) ∙ w .0 .taken))
-          (λ w. w .1 ∙ upto-left s f (at .loop .p) (at .loop .union) (at .loop .inv .1) (sym (c .before .has .ensures) ∙ w .0 .left))
+      ⊎-elim (λ w. w .2 ∙ upto-taken s f (at .loop .q) (at .loop .union) (at .loop .inv .1) (sym (c .before .has .ensures) ∙ w .0 .taken))
+          (λ w. w .1 ∙ upto-left s f (at .loop .q) (at .loop .union) (at .loop .inv .1) (sym (c .before .has .ensures) ∙ w .0 .left))
           (c .if1 .came),
     )
 
 returns : tie.Need-returns Inv-loop μ-loop
 unfolding composeBy
 returns c =
-    let args = c .before .before .args in
+    let args = c .before .before .before .args in
     c .before .loop .inv .1
-    ∙ upto-all (args .self .0) (along (args .entries .now) (args .other .0)) (c .before .loop .p) (omega arith)
+    ∙ upto-all (args .other .0) (row (args .entries .now) (8 * args .self .0)) (c .before .loop .q) (omega arith)
 
 pub compose-by-spec : {M : Type 1} → statement M
 compose-by-spec =
@@ -66,11 +70,13 @@ compose-by-spec =
     (tie.spec
     Inv-loop
     μ-loop
+    cast-from
+    mul-from
     loop-holds
     has-requires
-    mul-row-union
-    row-union-requires
-    add-p
+    add-union
+    element-copy-out-union
+    add-q
     loop-less
     loop-again
     returns)
