@@ -7,24 +7,10 @@ use native.Mathlib.Omega.{arith}
 use borrow.Author.Tests.{eq-eqb}
 use lib.ListN.{length}
 use lib.Seq.{take-all}
-use Rattle.lists.specs.BigEndian.{AllBytes, bigEndian, numberPut}
-use Rattle.lists.proofs.BigEndianLaws.{bytes-both, number-bytes, put-behind}
-use Rattle.answer.specs.Answer.{Answer, answer}
+use Rattle.lists.specs.BigEndian.{bigEndian, numberPut}
+use Rattle.lists.proofs.BigEndianLaws.{put-behind}
+use Rattle.answer.specs.Answer.{answer}
 use Rattle.answer.specs.Bytes.{answerBytes, fits, Answers}
-
--- the bytes of an answer are bytes, and there are 20
-pub answer-bytes : (a : Answer) → AllBytes (answerBytes a)
-answer-bytes a =
-    bytes-both _ (bigEndian (a .count))
-    (bytes-both _ (bigEndian (a .third))
-    (bytes-both _ (bigEndian (a .second))
-    (bytes-both _ (bigEndian (a .first)) (number-bytes (a .number)) (number-bytes (a .first)))
-    (number-bytes (a .second)))
-    (number-bytes (a .third)))
-    (number-bytes (a .count))
-
-pub length-answer : (a : Answer) → length (answerBytes a) ≡ 20
-length-answer a = refl
 
 -- five numbers put one behind the other fill 20 bytes with the answer
 pub five-put : (number first second third count : ℕ) (l₀ l₁ l₂ l₃ l₄ l₅ : List ℕ) → length l₀ ≡ 20

@@ -172,10 +172,6 @@ pub in-range : (n : ℕ) → 1 ≤ n → n ≤ 64 → inRange n ≡ true
 unfolding inRange
 in-range n some few = rw (le-leb 1 n some, le-leb n 64 few)
 
-pub square-holds : (n : ℕ) (m : List ℕ) → hasSquare n m ≡ true → length m ≡ n * n
-unfolding hasSquare
-square-holds n m e = eqb-true (length m) (n * n) e
-
 pub has-square : (n : ℕ) (m : List ℕ) → length m ≡ n * n → hasSquare n m ≡ true
 unfolding hasSquare
 has-square n m e = eq-eqb (length m) (n * n) e

@@ -13,7 +13,7 @@ use Rattle.refinement.specs.Ends.{Ends, NamesRegions, a-region, a-pair, a-tripl
 use Rattle.refinement.proofs.Limits.{refined-in-range}
 use Rattle.refinement.proofs.Demand.{refined-ends}
 use Rattle.refinement.proofs.Consequences.{refine-network}
-use Rattle.network.specs.declared.Area.the-variants.{Second}
+use Rattle.network.specs.declared.Area.the-variants.{First, Second}
 use Rattle.network.specs.declared.Verdict.{Verdict}
 use Rattle.network.specs.declared.Verdict.the-variants.{Accepted}
 use Rattle.network.specs.Refined.{Refined}
@@ -21,21 +21,21 @@ use Rattle.network.specs.Handed.{Handed}
 use Rattle.network.specs.Demand.{Accepts}
 use Rattle.network.specs.Carries.{Carries}
 use Rattle.network.specs.Again.{Again}
-use Rattle.network.proofs.Verdicts.{verdictOf, verdict-back, one-verdict}
+use Rattle.network.proofs.Verdicts.{contradictionOf, verdictOf, verdict-back, names-whole, one-verdict}
 use Rattle.network.proofs.Demand3.{accepted-ending, handed-network, demand-three}
 
 -- ---- what a verdict carries
 
-named : {n : ℕ} {numbers : Answer} → NamesRegions n numbers → Carries n (verdictOf n numbers)
-unfolding verdictOf
+named : {n : ℕ} {numbers : Answer} → NamesRegions n numbers → Carries n (verdictOf n First numbers)
+unfolding verdictOf contradictionOf
 named (a-region x) =
     rw (x .number) (record { number = refl; inside = x .inside; second = refl; third = refl; counted = x .counted })
 named (a-pair x) =
     rw (x .number) (record { number = refl; order = x .order; inside = x .inside; third = refl; counted = x .counted })
 named (a-triple x) = rw (x .number) (record { number = refl; three = x .three; few = x .few })
 
-carried : (n : ℕ) (m : List ℕ) (ending : Ending (List ℕ)) → Ends n m ending → Carries n (verdictOf n (answered ending))
-unfolding verdictOf
+carried : (n : ℕ) (m : List ℕ) (ending : Ending (List ℕ)) → Ends n m ending → Carries n (verdictOf n First (answered ending))
+unfolding verdictOf contradictionOf
 carried n m (accepted network count) x = x .few
 carried n m (refused numbers) x = named (x .names)
 
@@ -43,7 +43,7 @@ pub refine-carries : {n : ℕ} {cells first second first′ second′ : List ℕ
     → InRange n cells (length first) (length second) → Refined n cells first second first′ second′ verdict
     → Carries n verdict
 refine-carries {n} {cells} {first} {second} {first′} {second′} {verdict} range call =
-    rw (verdict-back n verdict (call .names) ∙ ap (verdictOf n) (call .answer))
+    rw (verdict-back n First verdict (names-whole n verdict (call .names)) ∙ ap (verdictOf n First) (call .answer))
     (carried n cells (refined n cells (length first) (length second)) (refined-ends n cells (length first) (length second) range))
 
 -- ---- refining again

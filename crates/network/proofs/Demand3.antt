@@ -26,11 +26,13 @@ use Rattle.network.specs.declared.Area.{Area}
 use Rattle.network.specs.declared.Area.the-variants.{First, Second}
 use Rattle.network.specs.declared.Contradiction.the-variants.{Region, Pair, Triple}
 use Rattle.network.specs.declared.Verdict.{Verdict}
-use Rattle.network.specs.declared.Verdict.the-variants.{Accepted, Refused, OutOfRange, WrongLength}
+use Rattle.network.specs.declared.Verdict.the-variants.{Accepted, Refused, Unfinished, Unprepared, OutOfRange, WrongLength}
 use Rattle.network.specs.Numbers.{answerOf}
 use Rattle.network.specs.Refined.{NamesArea, Refined, leaves}
-use Rattle.network.specs.Handed.{Handed, handed, served, chosen}
+use Rattle.network.specs.Areas.{chosen}
+use Rattle.network.specs.Handed.{Handed, handed, served}
 use Rattle.network.specs.Demand.{Accepts, Demand}
+use Rattle.network.proofs.Verdicts.{numberOf}
 use Rattle.network.proofs.refine.Kinds as refining
 use Rattle.network.proofs.refine.Reads.{Post as Refines}
 use Rattle.network.proofs.network.Kinds as handing
@@ -38,15 +40,14 @@ use Rattle.network.proofs.network.Reads.{Post as Hands}
 
 -- ---- the verdict and the ending
 
-abbrev numberOf : Answer → ℕ
-numberOf a = a .number
-
 -- a verdict with the answer of an acceptance is one
 pub accepts-by-answer : (verdict : Verdict) (count : ℕ) → answerOf verdict ≡ accepts count → Accepts verdict
 accepts-by-answer (Accepted regions rounds area) count e = record { regions = regions; rounds = rounds; area = area; is = refl }
 accepts-by-answer (Refused (Region i) rounds) count e = absurd (let z : _≡_ {A = ℕ} 21 0 = ap numberOf e in omega arith)
 accepts-by-answer (Refused (Pair i j) rounds) count e = absurd (let z : _≡_ {A = ℕ} 22 0 = ap numberOf e in omega arith)
 accepts-by-answer (Refused (Triple i k j) rounds) count e = absurd (let z : _≡_ {A = ℕ} 23 0 = ap numberOf e in omega arith)
+accepts-by-answer (Unfinished rounds area) count e = absurd (let z : _≡_ {A = ℕ} 24 0 = ap numberOf e in omega arith)
+accepts-by-answer Unprepared count e = absurd (let z : _≡_ {A = ℕ} 25 0 = ap numberOf e in omega arith)
 accepts-by-answer OutOfRange count e = absurd (let z : _≡_ {A = ℕ} 1 0 = ap numberOf e in omega arith)
 accepts-by-answer WrongLength count e = absurd (let z : _≡_ {A = ℕ} 2 0 = ap numberOf e in omega arith)
 

@@ -7,7 +7,8 @@ use lib.ListN.{take}
 use Rattle.network.specs.declared.Area.{Area}
 use Rattle.network.specs.declared.Verdict.{Verdict}
 use Rattle.network.specs.declared.Verdict.the-variants.{Accepted}
-use Rattle.network.specs.Handed.{Handed, served, chosen}
+use Rattle.network.specs.Areas.{chosen}
+use Rattle.network.specs.Handed.{Handed, served}
 
 module _ {X : Type 0} (first second : List ℕ) (atFirst atSecond : X) (verdict : Verdict) (n rounds : ℕ) (area : Area)
     (e : verdict ≡ Accepted n rounds area) where

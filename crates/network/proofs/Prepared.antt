@@ -1,11 +1,13 @@
--- The cells that preparing makes, what it comes to, and what follows for the whole refinement.
-use mathlib.Core.Path.{_≡_, sym, ap, _∙_}
+-- The cells that preparing makes, what it comes to, and what it leaves in areas of exactly n² bytes.
+use mathlib.Core.Path.{_≡_, refl, sym, ap, _∙_}
 use mathlib.Core.Bool.{Bool}
 use mathlib.Core.List.{List}
 use Prim.Native.Nat.{ℕ, _*_, _≤_, _<_}
 use borrow.Author.Tests.{lt-ltb, le-ltb, eq-eqb, ne-eqb}
 use lib.Dec.{eqb}
 use lib.ListN.{length, getD}
+use Rattle.answer.specs.Ending.{accepted}
+use Rattle.lists.proofs.LaidLaws.{laid-all}
 use Rattle.region.specs.Lookup.{place}
 use Rattle.region.specs.declared.Place.{Place}
 use Rattle.relation.specs.Relations.{equal}
@@ -18,15 +20,16 @@ use Rattle.refinement.specs.declared.Preparation.the-variants.{Ready, Region, P
 use Rattle.refinement.specs.Node.{nodeCell, node, emptyRegion}
 use Rattle.refinement.specs.Arc.{arcCell}
 use Rattle.refinement.specs.Prepare.{prepared}
-use Rattle.refinement.specs.Refine.{refine, allRounds}
-use Rattle.refinement.specs.Plain.{Plain}
-use Rattle.refinement.proofs.Stages.{node-cell, length-arc, arc-place, arc-done}
-use Rattle.refinement.proofs.Preparing.{preparation-region, preparation-pair, preparation-ready, ready-none-empty, refine-by}
+use Rattle.refinement.specs.Refine.{started}
+use Rattle.refinement.proofs.Stages.{node-cell, length-arc, arc-place}
+use Rattle.refinement.proofs.Preparing.{preparation-region, preparation-pair, preparation-ready, ready-none-empty}
 use Rattle.network.specs.declared.Contradiction.the-variants.{Region as AtRegion, Pair as AtPair}
-use Rattle.network.specs.declared.Verdict.{Verdict}
-use Rattle.network.specs.Inner.{Prepares, Clears, Meets}
+use Rattle.network.specs.declared.Start.the-variants.{Ready as IsReady, Refused as IsRefused}
+use Rattle.network.specs.Refined.{leaves}
+use Rattle.network.specs.Prepared.{leavesSecond}
+use Rattle.network.specs.Inner.{Prepares, Clears, startedWith, Readies}
 use Rattle.network.proofs.Searches.{first-empty-in}
-use Rattle.network.proofs.Endings.{meets-refused}
+use Rattle.network.proofs.Endings.{zeros-laid}
 
 -- ---- the cells by the two rules
 
@@ -75,35 +78,42 @@ module _ (n : ℕ) (cells first : List ℕ) (i : ℕ) (e : i ≡ emptyRegion n (
 
 -- ---- what follows
 
--- the rounds can start
-pub record Starts (n : ℕ) (cells first : List ℕ) : Type 0 where
-  pub ending : refine n cells ≡ allRounds n first
-  pub square : Square n first
-  pub plain : Plain n first
+module _ {n : ℕ} {cells first second first′ : List ℕ} {answer : Preparation} (prepares : Prepares n cells first first′ answer)
+    (square : Square n first) (other : Square n second) where
+  starts : startedWith n cells ≡ started answer (λ _. accepted (prepared n cells) 0)
+  starts = ap (λ (a : Preparation). started a (λ _. accepted (prepared n cells) 0)) (sym (prepares .found))
 
-module _ {n : ℕ} {cells first first′ : List ℕ} {answer : Preparation} (prepares : Prepares n cells first first′ answer)
-    (square : Square n cells) where
-  pub prepared-starts : answer ≡ Ready → Starts n cells first′
-  prepared-starts e =
+  pub readies-ready : answer ≡ Ready → Readies n (startedWith n cells) first second first′ second IsReady
+  unfolding leaves leavesSecond
+  readies-ready e =
       let none = ready-none-empty n cells (sym (prepares .found) ∙ e) in
       let made : first′ ≡ prepared n cells = prepares .inFirst ∙ rw (le-ltb (emptyRegion n (node n cells)) n (none .regions)) in
-      rw made
+      rw (starts ∙ ap (λ (a : Preparation). started a (λ _. accepted (prepared n cells) 0)) e)
       (record {
-        ending = refine-by n cells (sym e ∙ prepares .found);
-        square = record { some = square .some; few = square .few; size = length-arc n (node n cells) };
-        plain = arc-done n cells (none .regions) (none .cells);
+        answer = refl;
+        inFirst = made ∙ sym (laid-all (n * n) (prepared n cells) first (length-arc n (node n cells)) (square .size));
+        inSecond = refl;
       })
 
-  -- what they come to is what the refinement comes to
-  pub prepared-ends : {first″ second″ : List ℕ} {verdict : Verdict} → answer ≡ Ready
-      → Meets n (allRounds n first′) first″ second″ verdict → Meets n (refine n cells) first″ second″ verdict
-  prepared-ends e x = rw (prepared-starts e .ending) x
+  module _ {first″ second″ : List ℕ} (size : length first′ ≡ n * n) (cleared : Clears first′ second first″ second″) where
+    pub readies-region : {i : Place} → answer ≡ Region i
+        → Readies n (startedWith n cells) first second first″ second″ (IsRefused (AtRegion i))
+    unfolding leaves leavesSecond
+    readies-region e =
+        rw (starts ∙ ap (λ (a : Preparation). started a (λ _. accepted (prepared n cells) 0)) e)
+        (record {
+          answer = refl;
+          inFirst = zeros-laid n first′ first size (square .size) (cleared .inFirst);
+          inSecond = zeros-laid n second second (other .size) (other .size) (cleared .inSecond);
+        })
 
-  module _ {second first″ second″ : List ℕ} {verdict : Verdict} (size : length first′ ≡ n * n) (other : Square n second) where
-    pub prepared-refuses-region : {i : Place} → answer ≡ Region i → Clears first′ second first″ second″ (AtRegion i) 0 verdict
-        → Meets n (refine n cells) first″ second″ verdict
-    prepared-refuses-region e c = meets-refused (refine n cells) size (other .size) (refine-by n cells (sym e ∙ prepares .found)) c
-
-    pub prepared-refuses-pair : {i j : Place} → answer ≡ Pair i j → Clears first′ second first″ second″ (AtPair i j) 0 verdict
-        → Meets n (refine n cells) first″ second″ verdict
-    prepared-refuses-pair e c = meets-refused (refine n cells) size (other .size) (refine-by n cells (sym e ∙ prepares .found)) c
+    pub readies-pair : {i j : Place} → answer ≡ Pair i j
+        → Readies n (startedWith n cells) first second first″ second″ (IsRefused (AtPair i j))
+    unfolding leaves leavesSecond
+    readies-pair e =
+        rw (starts ∙ ap (λ (a : Preparation). started a (λ _. accepted (prepared n cells) 0)) e)
+        (record {
+          answer = refl;
+          inFirst = zeros-laid n first′ first size (square .size) (cleared .inFirst);
+          inSecond = zeros-laid n second second (other .size) (other .size) (cleared .inSecond);
+        })

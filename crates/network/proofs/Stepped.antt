@@ -1,6 +1,5 @@
 -- The cells of a round, and what it comes to, from what its searches found.
 use mathlib.Core.Path.{_≡_, refl, sym, ap, _∙_}
-use mathlib.Core.Bool.{Bool, true, false}
 use mathlib.Core.List.{List}
 use Prim.Native.Nat.{ℕ, _+_, _*_, _≤_, _<_, min}
 use lib.ListN.{length, getD, set}
@@ -13,6 +12,8 @@ use Rattle.refinement.specs.declared.Step.the-variants.{Empty, Same, Changed}
 use Rattle.refinement.specs.Round.{through, round, ranOut}
 use Rattle.refinement.proofs.Stages.{round-place, length-round}
 use Rattle.refinement.proofs.Stepping.{step-empty, step-same, step-changed}
+use Rattle.network.specs.declared.Area.{Area}
+use Rattle.network.specs.declared.Area.the-variants.{First, Second}
 use Rattle.network.specs.Inner.{Rounds, Turns}
 use Rattle.network.proofs.Searches.{first-empty-in, first-change-in}
 
@@ -50,9 +51,9 @@ module _ (n : ℕ) (old new : List ℕ) (made : new ≡ round n old) (p : ℕ) (
     rounds-same l = record { found = sym (step-same n old none (rw (← at-change) l)); made = made }
 
 -- a round from one area into the other is a turn
-module _ (n : ℕ) (swapped : Bool) (first second : List ℕ) (answer : Step) where
-  pub turns-back : (first′ : List ℕ) → swapped ≡ true → Rounds n second first′ answer → Turns n swapped first second first′ second answer
-  turns-back first′ e r = rw e (record { found = r .found; inFirst = r .made; inSecond = refl })
-
-  pub turns-on : (second′ : List ℕ) → swapped ≡ false → Rounds n first second′ answer → Turns n swapped first second first second′ answer
+module _ (n : ℕ) (area : Area) (first second : List ℕ) (answer : Step) where
+  pub turns-on : (second′ : List ℕ) → area ≡ First → Rounds n first second′ answer → Turns n area first second first second′ answer
   turns-on second′ e r = rw e (record { found = r .found; inFirst = refl; inSecond = r .made })
+
+  pub turns-back : (first′ : List ℕ) → area ≡ Second → Rounds n second first′ answer → Turns n area first second first′ second answer
+  turns-back first′ e r = rw e (record { found = r .found; inFirst = r .made; inSecond = refl })

@@ -6,15 +6,9 @@ use mathlib.Core.List.{List, []}
 use lib.ListN.{length, take}
 use lib.Dec.{leb}
 use Rattle.matrix.specs.Square.{inRange}
-use Rattle.network.specs.declared.Area.{Area}
-use Rattle.network.specs.declared.Area.the-variants.{First, Second}
 use Rattle.network.specs.declared.Verdict.{Verdict}
-use Rattle.network.specs.declared.Verdict.the-variants.{Accepted, Refused, OutOfRange, WrongLength}
-
--- what belongs to the area named
-abbrev pub chosen : {X : Type 0} → Area → X → X → X
-chosen First x y = x
-chosen Second x y = y
+use Rattle.network.specs.declared.Verdict.the-variants.{Accepted, Refused, Unfinished, Unprepared, OutOfRange, WrongLength}
+use Rattle.network.specs.Areas.{chosen}
 
 -- n is from 1 to 64 and both areas have n² bytes
 abbrev pub served : ℕ → List ℕ → List ℕ → Bool
@@ -24,6 +18,8 @@ served n first second = inRange n && (leb (n * n) (length first) && leb (n * n) 
 abbrev pub handed : List ℕ → List ℕ → Verdict → List ℕ
 handed first second (Accepted n rounds area) = cond (served n first second) (take (n * n) (chosen area first second)) []
 handed first second (Refused contradiction rounds) = []
+handed first second (Unfinished rounds area) = []
+handed first second Unprepared = []
 handed first second OutOfRange = []
 handed first second WrongLength = []
 
@@ -31,6 +27,8 @@ handed first second WrongLength = []
 abbrev pub begins : {X : Type 0} → X → X → List ℕ → List ℕ → Verdict → X
 begins x y first second (Accepted n rounds area) = cond (served n first second) (chosen area x y) x
 begins x y first second (Refused contradiction rounds) = x
+begins x y first second (Unfinished rounds area) = x
+begins x y first second Unprepared = x
 begins x y first second OutOfRange = x
 begins x y first second WrongLength = x
 

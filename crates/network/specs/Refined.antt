@@ -11,7 +11,7 @@ use Rattle.refinement.specs.Refine.{refined}
 use Rattle.network.specs.declared.Area.{Area}
 use Rattle.network.specs.declared.Area.the-variants.{First, Second}
 use Rattle.network.specs.declared.Verdict.{Verdict}
-use Rattle.network.specs.declared.Verdict.the-variants.{Accepted, Refused, OutOfRange, WrongLength}
+use Rattle.network.specs.declared.Verdict.the-variants.{Accepted, Refused, Unfinished, Unprepared, OutOfRange, WrongLength}
 use Rattle.network.specs.Numbers.{answerOf}
 
 -- the area that the round after `count` rounds writes: the second after an even count
@@ -22,6 +22,8 @@ written count = cond (eqb (count % 2) 0) Second First
 abbrev pub NamesArea : ℕ → Verdict → Type 0
 NamesArea n (Accepted regions rounds area) = (regions ≡ n) × (area ≡ written rounds)
 NamesArea n (Refused contradiction rounds) = Unit
+NamesArea n (Unfinished rounds area) = Unit
+NamesArea n Unprepared = Unit
 NamesArea n OutOfRange = Unit
 NamesArea n WrongLength = Unit
 

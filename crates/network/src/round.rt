@@ -1,4 +1,5 @@
 // One round: every cell of the new matrix is made from the old one, and what that came to.
+use crate::Area;
 use matrix::at;
 use refinement::Step;
 use region::Place;
@@ -94,19 +95,19 @@ fn one_round(entries: &Compositions, n: usize, old: &[u8], new: &mut [u8]) -> St
     Step::Same
 }
 
-// A round from the area that holds the matrix into the other one.
+// A round from the area named into the other one.
 pub(crate) fn turn(
     entries: &Compositions,
     n: usize,
-    swapped: bool,
+    area: Area,
     first: &mut [u8],
     second: &mut [u8],
 ) -> Step
     requires { ⌜ (now entries ≡ listed) × Square n (now first) × Square n (now second) ⌝ }
-    ensures { λ r. ⌜ Turns n swapped (now (first .entry)) (now (second .entry)) (now (first .exit)) (now (second .exit)) r ⌝ }
+    ensures { λ r. ⌜ Turns n area (now (first .entry)) (now (second .entry)) (now (first .exit)) (now (second .exit)) r ⌝ }
 {
-    if swapped {
-        return one_round(entries, n, second, first);
+    match area {
+        Area::First => one_round(entries, n, first, second),
+        Area::Second => one_round(entries, n, second, first),
     }
-    one_round(entries, n, first, second)
 }

@@ -1,62 +1,47 @@
-// All rounds, and the refinement that is made of the preparation and of them.
+// Some rounds, from a matrix in one of the areas into the other and back.
 use crate::Area;
 use crate::Contradiction;
 use crate::Verdict;
-use crate::prepare::prepare;
+use crate::areas::clear;
+use crate::areas::holds;
+use crate::areas::other;
+use crate::plain::is_plain_in;
 use crate::round::turn;
-use refinement::Preparation;
 use refinement::Step;
 use relation::Compositions;
 use relation::compositions;
 ghost use mathlib.Core.Path.{_≡_};
 ghost use Rattle.relation.specs.Lent.{listed};
 ghost use Rattle.matrix.specs.Square.{Square};
-ghost use Rattle.refinement.specs.Refine.{refine, allRounds};
-ghost use Rattle.refinement.specs.Plain.{Plain};
-ghost use Rattle.network.specs.Refined.{written};
-ghost use Rattle.network.specs.Inner.{Clears, Meets};
+ghost use Rattle.refinement.specs.Refine.{rounds};
+ghost use Rattle.network.specs.Areas.{chosen};
+ghost use Rattle.network.specs.Inner.{Meets, roundsOr};
 
-// A refusal: both areas are cleared.
-fn refused(
+// Up to so many rounds, the confirming one included, from the matrix in the area named.
+fn some_rounds(
+    entries: &Compositions,
+    n: usize,
+    area: Area,
+    most: usize,
     first: &mut [u8],
     second: &mut [u8],
-    contradiction: Contradiction,
-    count: usize,
 ) -> Verdict
-    ensures { λ r. ⌜ Clears (now (first .entry)) (now (second .entry)) (now (first .exit)) (now (second .exit)) contradiction count r ⌝ }
-{
-    matrix::fill(first, 0);
-    matrix::fill(second, 0);
-    Verdict::Refused(contradiction, count)
-}
-
-// The area that the round after `count` rounds writes.
-fn written(count: usize) -> Area
-    ensures { λ r. ⌜ r ≡ written count ⌝ }
-{
-    if count % 2 == 0 {
-        return Area::Second;
-    }
-    Area::First
-}
-
-// The rounds, from the matrix in the first area on.
-fn all_rounds(entries: &Compositions, n: usize, first: &mut [u8], second: &mut [u8]) -> Verdict
-    requires { ⌜ (now entries ≡ listed) × Square n (now first) × Square n (now second) × Plain n (now first) ⌝ }
-    ensures { λ r. ⌜ Meets n (allRounds n (now (first .entry))) (now (first .exit)) (now (second .exit)) r ⌝ }
+    requires { ⌜ (now entries ≡ listed) × Square n (now first) × Square n (now second) ⌝ }
+    ensures { λ r. ⌜ Meets n area (rounds most n 0 (chosen area (now (first .entry)) (now (second .entry)))) (now (first .entry)) (now (second .entry)) (now (first .exit)) (now (second .exit)) r ⌝ }
 {
     let mut count: usize = 0;
-    loop {
-        let step = turn(entries, n, count % 2 == 1, first, second);
+    while count < most {
+        let step = turn(entries, n, holds(area, count), first, second);
         match step {
             Step::Empty(i, k, j) => {
-                return refused(first, second, Contradiction::Triple(i, k, j), count + 1);
+                clear(first, second);
+                return Verdict::Refused(Contradiction::Triple(i, k, j), count + 1);
             }
             Step::Same => {
                 return Verdict::Accepted {
                     regions: n,
                     rounds: count,
-                    area: written(count),
+                    area: holds(other(area), count),
                 };
             }
             Step::Changed => {
@@ -64,20 +49,20 @@ fn all_rounds(entries: &Compositions, n: usize, first: &mut [u8], second: &mut [
             }
         }
     }
+    Verdict::Unfinished {
+        rounds: count,
+        area: holds(area, count),
+    }
 }
 
-// The whole refinement, in areas of exactly n² bytes.
-pub(crate) fn run(n: usize, cells: &[u8], first: &mut [u8], second: &mut [u8]) -> Verdict
-    requires { ⌜ Square n (now cells) × Square n (now first) × Square n (now second) ⌝ }
-    ensures { λ r. ⌜ Meets n (refine n (now (cells .entry))) (now (first .exit)) (now (second .exit)) r ⌝ }
+// A run in areas of exactly n² bytes: the matrix is tested first.
+pub(crate) fn run(n: usize, area: Area, most: usize, first: &mut [u8], second: &mut [u8]) -> Verdict
+    requires { ⌜ Square n (now first) × Square n (now second) ⌝ }
+    ensures { λ r. ⌜ Meets n area (roundsOr n most (chosen area (now (first .entry)) (now (second .entry)))) (now (first .entry)) (now (second .entry)) (now (first .exit)) (now (second .exit)) r ⌝ }
 {
-    let preparation = prepare(n, cells, first);
-    match preparation {
-        Preparation::Region(i) => refused(first, second, Contradiction::Region(i), 0),
-        Preparation::Pair(i, j) => refused(first, second, Contradiction::Pair(i, j), 0),
-        Preparation::Ready => {
-            let entries = compositions();
-            all_rounds(&entries, n, first, second)
-        }
+    if !is_plain_in(n, area, first, second) {
+        return Verdict::Unprepared;
     }
+    let entries = compositions();
+    some_rounds(&entries, n, area, most, first, second)
 }

@@ -15,3 +15,8 @@ pub mod Demand
 -- what follows from them
 pub mod Consequences
 pub mod Renumber
+pub mod ArcStage
+-- rounds a few at a time
+pub mod Readied
+pub mod PlainTest
+pub mod Sharing

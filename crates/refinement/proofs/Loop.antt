@@ -1,7 +1,7 @@
 -- Where a loop over the rounds stands, and what each step makes of it.
-use mathlib.Core.Path.{_≡_, ap, ap₂, _∙_}
+use mathlib.Core.Path.{_≡_, refl, sym, ap, _∙_}
 use mathlib.Core.List.{List}
-use Prim.Native.Nat.{ℕ, suc, _+_, _-_, _*_, _≤_, _<_}
+use Prim.Native.Nat.{ℕ, zero, suc, _+_, _-_, _*_, _≤_, _<_}
 use native.Mathlib.Omega.{arith}
 use lib.ListN.{length}
 use Rattle.answer.specs.Answer.{answer}
@@ -11,10 +11,11 @@ use Rattle.refinement.specs.declared.Step.{Step}
 use Rattle.refinement.specs.declared.Step.the-variants.{Empty, Same, Changed}
 use Rattle.refinement.specs.Round.{round}
 use Rattle.refinement.specs.Step.{stepOf}
-use Rattle.refinement.specs.Refine.{mostRounds, stepped, rounds, allRounds}
+use Rattle.refinement.specs.Refine.{stepped, rounds}
+use Rattle.refinement.specs.Run.{afterRounds}
 use Rattle.refinement.specs.Plain.{Plain}
 use Rattle.refinement.proofs.Stages.{length-round, round-plain, round-below}
-use Rattle.refinement.proofs.Slack.{slack, slack-most, slack-falls}
+use Rattle.refinement.proofs.Slack.{slack, slack-falls}
 use Rattle.refinement.proofs.Stepping.{Moves, by-step}
 
 -- ---- a round that changes something
@@ -31,58 +32,59 @@ moves-falls n old P m =
 
 -- ---- the loop
 
--- the rounds from `start` have come to `old` after `count` rounds that changed something
-pub record Reached (n : ℕ) (start old : List ℕ) (count : ℕ) : Type 0 where
+-- of `more` rounds from `start` so many are made, each of which changed something, and they have come to `old`
+pub record Reached (n more : ℕ) (start old : List ℕ) (count : ℕ) : Type 0 where
   pub size : length old ≡ n * n
-  pub plain : Plain n old
-  pub few : count + slack n old ≤ mostRounds n
-  pub same : allRounds n start ≡ rounds (suc (mostRounds n - count)) n count old
+  pub made : old ≡ afterRounds count n start
+  pub few : count ≤ more
+  pub same : rounds more n 0 start ≡ rounds (more - count) n count old
 
-pub reached-start : (n : ℕ) (start : List ℕ) → length start ≡ n * n → Plain n start → Reached n start start 0
-reached-start n start l P = record {
-  size = l;
-  plain = P;
-  few = omega (arith, slack-most n start);
-  same = ap (λ (f : ℕ). rounds (suc f) n 0 start) (omega arith);
-}
+pub reached-start : (n more : ℕ) (start : List ℕ) → length start ≡ n * n → Reached n more start start 0
+unfolding afterRounds
+reached-start n more start l =
+    record { size = l; made = refl; few = omega arith; same = ap (λ (f : ℕ). rounds f n 0 start) (omega arith) }
 
 -- nothing changed: the rounds end, and the round is what it was made from
-pub record Ended (n : ℕ) (start old : List ℕ) (count : ℕ) : Type 0 where
-  pub ending : allRounds n start ≡ accepted old count
+pub record Ended (n more : ℕ) (start old : List ℕ) (count : ℕ) : Type 0 where
+  pub ending : rounds more n 0 start ≡ accepted old count
   pub kept : round n old ≡ old
 
--- something changed: the rounds go on from a matrix with less to lose
-pub record Going (n : ℕ) (start old : List ℕ) (count : ℕ) : Type 0 where
-  pub reached : Reached n start (round n old) (count + 1)
-  pub less : slack n (round n old) < slack n old
-
 -- what a step says of the rounds from the start
-abbrev pub Says : (n : ℕ) (start old : List ℕ) (count : ℕ) → Step → Type 0
-Says n start old count (Empty i k j) = allRounds n start ≡ refused (answer 23 (i .0) (k .0) (j .0) (suc count))
-Says n start old count Same = Ended n start old count
-Says n start old count Changed = Going n start old count
+abbrev pub Says : (n more : ℕ) (start old : List ℕ) (count : ℕ) → Step → Type 0
+Says n more start old count (Empty i k j) = rounds more n 0 start ≡ refused (answer 23 (i .0) (k .0) (j .0) (suc count))
+Says n more start old count Same = Ended n more start old count
+Says n more start old count Changed = Reached n more start (round n old) (count + 1)
 
-pub step-says : (n : ℕ) (start old : List ℕ) (count : ℕ) → Reached n start old count → Says n start old count (stepOf n old)
+-- one round more is a round of what the others made
+pub after-next : (count n : ℕ) (m : List ℕ) → afterRounds (suc count) n m ≡ round n (afterRounds count n m)
+unfolding afterRounds
+after-next zero n m = refl
+after-next (suc count) n m = after-next count n (round n m)
+
+pub step-says : (n more : ℕ) (start old : List ℕ) (count : ℕ) → Reached n more start old count → count < more
+    → Says n more start old count (stepOf n old)
 unfolding rounds
-step-says n start old count R =
-    let more : ℕ = mostRounds n - count in
+step-says n more start old count R h =
+    let left : ℕ = more - (count + 1) in
+    let one-more : more - count ≡ suc left = omega arith in
+    let next : suc count ≡ count + 1 = omega arith in
     by-step
     (λ (s : Step).
-    allRounds n start ≡ stepped s count old (λ _. rounds more n (suc count) (round n old)) → Says n start old count s)
+    rounds more n 0 start ≡ stepped s count old (λ _. rounds left n (suc count) (round n old)) → Says n more start old count s)
     n old
     (λ i j e q. q)
     (λ r q. record { ending = q; kept = ext-cell n (round n old) old (length-round n old) (R .size) (r .same) })
-    (λ m q.
-    let f : Falls n old = moves-falls n old (R .plain) m in
-    let left : more ≡ suc (mostRounds n - (count + 1)) = omega (arith, R .few, f .less) in
-    let next : suc count ≡ count + 1 = omega arith in
-    record {
-      reached = record {
-        size = length-round n old;
-        plain = f .plain;
-        few = omega (arith, R .few, f .less);
-        same = q ∙ ap₂ (λ (a c : ℕ). rounds a n c (round n old)) left next;
-      };
-      less = f .less;
+    (λ m q. record {
+      size = length-round n old;
+      made = ap (round n) (R .made) ∙ sym (after-next count n start) ∙ ap (λ (c : ℕ). afterRounds c n start) next;
+      few = omega arith;
+      same = q ∙ ap (λ (c : ℕ). rounds left n c (round n old)) next;
     })
-    (R .same)
+    (R .same ∙ ap (λ (f : ℕ). rounds f n count old) one-more)
+
+-- as many rounds as may be made are used up
+pub reached-all : {n more : ℕ} {start old : List ℕ} {count : ℕ} → Reached n more start old count → more ≤ count
+    → rounds more n 0 start ≡ refused (answer 24 0 0 0 count)
+unfolding rounds
+reached-all {n} {more} {start} {old} {count} R h =
+    let none : more - count ≡ 0 = omega (arith, R .few) in R .same ∙ ap (λ (f : ℕ). rounds f n count old) none

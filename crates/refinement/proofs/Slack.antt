@@ -3,7 +3,7 @@
 use mathlib.Core.Path.{_≡_, refl, sym, ap, _∙_, subst}
 use mathlib.Core.List.{List}
 use Prim.Native.Nat.{ℕ, zero, suc, _+_, _-_, _*_, _/_, _≤_, _<_}
-use native.Mathlib.Nat.{zero-lt-suc, add-mul-div-right, le-trans, le-of-eq, mul-le-mul, mul-le-mul-left, div-le-self}
+use native.Mathlib.Nat.{zero-lt-suc, add-mul-div-right, le-trans, le-of-eq, mul-le-mul}
 use native.Mathlib.Omega.{arith}
 use Rattle.lists.proofs.Splits.{split-lt}
 use Rattle.relation.specs.Sets.{size}
@@ -49,12 +49,11 @@ slack-most n m =
     (le-of-eq (sevens n))
 
 -- with at most 64 regions the bound is a small number
-pub most-rounds-le : (n : ℕ) → n ≤ 64 → mostRounds n ≤ 28672
+pub most-rounds-le : (n : ℕ) → n ≤ 64 → mostRounds n ≤ 14112
 unfolding mostRounds
 most-rounds-le n h =
-    let a : n * n ≤ 64 * 64 = mul-le-mul h h in
-    let b : n * (n - 1) / 2 ≤ n * (n - 1) = div-le-self (n * (n - 1)) 2 in
-    let d : n * (n - 1) ≤ n * n = mul-le-mul-left n (omega arith) in
+    let less : n - 1 ≤ 63 = omega arith in
+    let all : n * (n - 1) ≤ 64 * 63 = mul-le-mul h less in
     omega arith
 
 -- ---- less with every change

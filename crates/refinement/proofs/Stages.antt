@@ -9,8 +9,9 @@ use native.Mathlib.Omega.{arith}
 use borrow.Author.Tests.{eqb-true, eqb-false, eq-eqb, ne-eqb}
 use lib.Dec.{eqb, lit<}
 use lib.ListN.{length, getD}
+use Rattle.lists.specs.Least.{least}
 use Rattle.lists.proofs.Splits.{split-lt, split-eq}
-use Rattle.lists.proofs.LeastLaws.{least-is}
+use Rattle.lists.proofs.LeastLaws.{least-is, least-same}
 use Rattle.relation.specs.Relations.{equal}
 use Rattle.relation.specs.Sets.{Within, only, empty, universal, intersect}
 use Rattle.relation.specs.Converse.{converse}
@@ -96,6 +97,13 @@ prepared-arc n m i j hi hj =
 pub prepared-cell : (n : ℕ) (m : List ℕ) (i j : ℕ) → i < n → j < n
     → cell n (arc n (node n m)) i j ≡ intersect (nodeCell n m i j) (converse (nodeCell n m j i))
 prepared-cell n m i j hi hj = arc-cell n (node n m) i j hi hj ∙ prepared-arc n m i j hi hj
+
+pub prepared-region : (n : ℕ) (m : List ℕ)
+    → emptyRegion n (node n m) ≡ least n (λ i. eqb (intersect (cell n m i i) (only equal)) 0)
+unfolding emptyRegion
+prepared-region n m =
+    least-same n (λ i. eqb (cell n (node n m) i i) 0) (λ i. eqb (intersect (cell n m i i) (only equal)) 0)
+    (λ i h. ap (λ (x : ℕ). eqb x 0) (node-self n m i h))
 
 -- ---- the intersection over places
 

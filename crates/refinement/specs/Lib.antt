@@ -5,6 +5,7 @@ pub mod Prepare
 pub mod Round
 pub mod Step
 pub mod Refine
+pub mod Run
 -- what rounds start from
 pub mod Plain
 -- what a call within its limits has

@@ -43,8 +43,13 @@ started Ready follows = follows tt
 unfoldable pub refine : ℕ → List ℕ → Ending (List ℕ)
 refine n m = started (preparation n m) (λ _. allRounds n (prepared n m))
 
--- the whole call, with the cells and how long each area is: n outside 1 to 64 is 1; other than n² cells or a shorter area is 2
-unfoldable pub refined : ℕ → List ℕ → ℕ → ℕ → Ending (List ℕ)
-refined n m first second =
+-- the checks of a call, with the cells and how long each area is, before what follows: n outside 1 to 64 is 1; other than n² cells or
+-- a shorter area is 2
+abbrev pub limited : ℕ → List ℕ → ℕ → ℕ → (Unit {0} → Ending (List ℕ)) → Ending (List ℕ)
+limited n m first second follows =
     stop (not (inRange n)) (refused (answer 1 0 0 0 0))
-    (λ _. stop (not (hasSquare n m && (leb (n * n) first && leb (n * n) second))) (refused (answer 2 0 0 0 0)) (λ _. refine n m))
+    (λ _. stop (not (hasSquare n m && (leb (n * n) first && leb (n * n) second))) (refused (answer 2 0 0 0 0)) follows)
+
+-- the whole call
+unfoldable pub refined : ℕ → List ℕ → ℕ → ℕ → Ending (List ℕ)
+refined n m first second = limited n m first second (λ _. refine n m)

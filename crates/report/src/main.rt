@@ -1,7 +1,7 @@
 // Reads a scene on standard input and prints its report. One byte more than a scene may have is read, so that a longer one
 // is seen as such. Where the input cannot be read or the output not written, a line on standard error says so; where nothing was
 // read, no report is printed.
-ghost use Rattle.report.specs.Input.{Fits};
+ghost use Rattle.report.specs.Inner.{Fits};
 use libc::STDERR_FILENO;
 use libc::STDIN_FILENO;
 use libc::STDOUT_FILENO;

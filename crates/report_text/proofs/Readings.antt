@@ -4,10 +4,9 @@ use mathlib.Core.List.{List, _++_}
 use Prim.Native.Nat.{ℕ, zero, suc, _+_, _*_, _≤_}
 use native.Mathlib.Nat.{zero-add, mul-le-mul}
 use native.Mathlib.Omega.{arith}
-use lib.ListN.{length, getD, take, drop, replicate, length-replicate, List·getD-eq-default, length-append, length-take}
+use lib.ListN.{length, getD, take, drop, replicate, length-replicate, length-append, length-take}
 use lib.Seq.{take-all}
 use Rattle.lists.specs.Laid.{laid}
-use Rattle.lists.proofs.Splits.{split-lt}
 use Rattle.answer.specs.Ending.{Ending, accepted, refused}
 use Rattle.matrix.specs.Square.{Square}
 use Rattle.matrix.specs.Cells.{grid, row, column}
@@ -15,7 +14,7 @@ use Rattle.matrix.proofs.CellLaws.{length-grid}
 use Rattle.refinement.specs.Refine.{refine}
 use Rattle.filing.specs.Stated.{statedCell}
 use Rattle.filing.specs.Areas.{Areas, Lent, holding, padded}
-use Rattle.filing.proofs.Padded.{padded-in, padded-past}
+use Rattle.filing.proofs.Padded.{padded-same}
 use Rattle.scene.specs.declared.Reading.{Reading}
 use Rattle.scene.specs.declared.Reading.the-variants.{Accepted, WrongLength, TooLong, Refused}
 use Rattle.scene.specs.declared.Refusal.{Refusal}
@@ -87,10 +86,6 @@ module _ {scene identifiers cells : List ℕ} {n : ℕ} (a : AcceptedScene scene
 
 -- ---- identifiers and the zeros behind them
 
-same-entries : (size : ℕ) (l : List ℕ) (k : ℕ) → getD (padded size l) k 0 ≡ getD l k 0
-same-entries size l k =
-    split-lt k (length l) (λ h. padded-in size l k h) (λ h. padded-past size l k h ∙ sym (List·getD-eq-default l 0 {n = k} h))
-
 module _ (n : ℕ) (one other stated : List ℕ) (same : (k : ℕ) → getD one k 0 ≡ getD other k 0) where
   same-pairs : (network : List ℕ) (count : ℕ) → pairLines count n one stated network ≡ pairLines count n other stated network
   unfolding pairLines
@@ -110,7 +105,7 @@ accepted-reported {scene} {identifiers} {cells} {n = n} a long r =
     let stated : List ℕ = grid n (statedCell startingCell (a .said .statements)) in
     let same : readReport (acceptedSaid (a .said)) ≡ refinedReport n identifiers (take (n * n) cells) (refine n (take (n * n) cells)) =
     rw (a .counted, a .cells-front, a .identifiers-are)
-    (sym (same-report n (padded 64 (a .said .identifiers)) (a .said .identifiers) stated (same-entries 64 (a .said .identifiers)) (refine n stated))) in
+    (sym (same-report n (padded 64 (a .said .identifiers)) (a .said .identifiers) stated (padded-same 64 (a .said .identifiers)) (refine n stated))) in
     reported long (ap readReport (a .alone) ∙ same) r
 
 -- ---- a refused scene

@@ -17,8 +17,10 @@ use Rattle.network.specs.declared.Contradiction.{Contradiction}
 use Rattle.network.specs.declared.Verdict.{Verdict}
 use Rattle.network.specs.declared.Verdict.the-variants.{Accepted, Refused}
 use Rattle.network.specs.Numbers.{answerOf}
+use Rattle.network.specs.Carries.{Carries}
 use Rattle.network.specs.Refined.{Refined}
 use Rattle.network.specs.Handed.{Handed}
+use Rattle.network.proofs.Consequences.{refine-carries}
 use Rattle.text.specs.Put.{Adds}
 use Rattle.text.proofs.PutLaws.{adds-adds}
 use Rattle.report_text.specs.Report.{acceptedLine, pairLines, nameOf, answerLine, refinedReport}
@@ -69,6 +71,11 @@ module _ {n : ℕ} {identifiers stated first′ second′ : List ℕ} {verdict :
         adds = renamed same a;
         short = subst (λ (t : List ℕ). length t ≤ 131072) same (answer-short identifiers (answerOf other));
       }
+
+  -- a call within its limits never ends otherwise
+  pub never-reports : {other : Verdict} {b₀ b₁ : List ℕ} {next : ℕ} → verdict ≡ other → (Carries n other → ⊥)
+      → Reports (refinedReport n identifiers stated (refine n stated)) b₀ b₁ next
+  never-reports e none = absurd (none (subst (Carries n) e (refine-carries range v)))
 
   pub contradiction-reports : {contradiction : Contradiction} {rounds : ℕ} {b₀ b₁ : List ℕ} {next : ℕ}
       → verdict ≡ Refused contradiction rounds → Adds (answerLine identifiers (answerOf (Refused contradiction 0))) b₀ 0 b₁ next

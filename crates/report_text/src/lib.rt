@@ -66,6 +66,8 @@ fn put_refined(buffer: &mut [u8], n: usize, identifiers: &[u32], stated: &[u8]) 
             )
         }
         Verdict::Refused(contradiction, _) => put_contradiction(buffer, identifiers, contradiction),
+        Verdict::Unfinished { rounds: _, area: _ } => put_refusal(buffer, 24, 0, 0, 0),
+        Verdict::Unprepared => put_refusal(buffer, 25, 0, 0, 0),
         Verdict::OutOfRange => put_refusal(buffer, 1, 0, 0, 0),
         Verdict::WrongLength => put_refusal(buffer, 2, 0, 0, 0),
     }

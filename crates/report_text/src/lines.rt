@@ -1,4 +1,4 @@
-// The lines of a report, each put at a place of the buffer if there is room for it.
+// The lines of a report, each put at an offset of the buffer if there is room for it.
 use crate::class_of;
 use network::Contradiction;
 use region::Identifier;

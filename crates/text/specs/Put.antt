@@ -10,11 +10,11 @@ use lib.ListN.{length, take, drop}
 abbrev pub room : List ℕ → ℕ → List ℕ → Bool
 room buffer at text = leb (at + length text) (length buffer)
 
--- the buffer with the text at a place, and all other bytes as they were
+-- the buffer with the text at an offset, and all other bytes as they were
 unfoldable pub overwritten : List ℕ → ℕ → List ℕ → List ℕ
 overwritten buffer at text = take at buffer ++ text ++ drop (at + length text) buffer
 
--- what putting a text at a place promises: it stands there and the next place is behind it; without room nothing is written
+-- what putting a text at an offset promises: it stands there and the next offset is behind it; without room nothing is written
 -- and the next place is the same
 pub record Puts (text buffer : List ℕ) (at : ℕ) (buffer′ : List ℕ) (next : ℕ) : Type 0 where
   pub written : buffer′ ≡ cond (room buffer at text) (overwritten buffer at text) buffer

@@ -1,8 +1,8 @@
-// Text in a lent buffer: words and decimal numbers, each put at a place if there is room for all of it.
+// Text in a lent buffer: words and decimal numbers, each put at an offset if there is room for all of it.
 ghost use Rattle.text.specs.Decimal.{decimal};
 ghost use Rattle.text.specs.Put.{Puts};
 
-// Puts a word at a place, and answers the place behind it; without room nothing is written and the place is the same.
+// Puts a word at an offset, and answers the offset behind it; without room nothing is written and the offset is the same.
 pub fn put_word(buffer: &mut [u8], at: usize, word: &[u8]) -> usize
     ensures { λ r. ⌜ Puts (now (word .entry)) (now (buffer .entry)) at (now (buffer .exit)) r ⌝ }
 {

@@ -82,6 +82,18 @@ enum-told-5 c = search needs
 slice-aggregate-result-8 : tie.Need-slice-aggregate-result-8
 slice-aggregate-result-8 c = search needs
 
+enum-told-6 : tie.Need-enum-told-6
+enum-told-6 c = search needs
+
+slice-aggregate-result-9 : tie.Need-slice-aggregate-result-9
+slice-aggregate-result-9 c = search needs
+
+enum-told-7 : tie.Need-enum-told-7
+enum-told-7 c = search needs
+
+slice-aggregate-result-10 : tie.Need-slice-aggregate-result-10
+slice-aggregate-result-10 c = search needs
+
 returns-4 : tie.Need-returns-4
 returns-4 c =
     let second = c .before .before .before in
@@ -115,6 +127,12 @@ returns-7 c = search needs
 returns-8 : tie.Need-returns-8
 returns-8 c = search needs
 
+returns-9 : tie.Need-returns-9
+returns-9 c = search needs
+
+returns-10 : tie.Need-returns-10
+returns-10 c = search needs
+
 pub network-spec : {M : Type 1} → statement M
 network-spec =
     tie.close
@@ -138,8 +156,14 @@ network-spec =
     slice-aggregate-result-7
     enum-told-5
     slice-aggregate-result-8
+    enum-told-6
+    slice-aggregate-result-9
+    enum-told-7
+    slice-aggregate-result-10
     returns-4
     returns-5
     returns-6
     returns-7
-    returns-8)
+    returns-8
+    returns-9
+    returns-10)

@@ -4,7 +4,7 @@ use mathlib.Core.Path.{_≡_}
 use borrow.Author.Needs.{needs}
 use lib.ListN.{length}
 use Rattle.io.proofs.Counting.{counts}
-use Rattle.report.specs.Input.{Fits}
+use Rattle.report.specs.Inner.{Fits}
 use Rattle.report.proofs.read_input.Statement.{statement}
 use Rattle.report.proofs.read_input.Tie as tie
 

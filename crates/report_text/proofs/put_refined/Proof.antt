@@ -1,7 +1,7 @@
 -- `report_text::put_refined` meets its contract: each verdict's text is the report of the refinement.
 use borrow.Author.Needs.{needs}
 use native.Mathlib.Omega.{arith}
-use Rattle.report_text.proofs.Refinements.{Call, accepted-network, network-paired, accepted-reports, contradiction-reports, refused-reports}
+use Rattle.report_text.proofs.Refinements.{Call, accepted-network, network-paired, accepted-reports, contradiction-reports, never-reports}
 use denote.Ref.{now}
 use Rattle.report_text.proofs.put_refined.Statement.{statement}
 use Rattle.report_text.proofs.put_refined.Tie as tie
@@ -64,6 +64,18 @@ enum-told-2 c = search needs
 put-refusal-requires-2 : tie.Need-put-refusal-requires-2
 put-refusal-requires-2 c κs = search needs
 
+enum-told-3 : tie.Need-enum-told-3
+enum-told-3 c = search needs
+
+put-refusal-requires-3 : tie.Need-put-refusal-requires-3
+put-refusal-requires-3 c κs = search needs
+
+enum-told-4 : tie.Need-enum-told-4
+enum-told-4 c = search needs
+
+put-refusal-requires-4 : tie.Need-put-refusal-requires-4
+put-refusal-requires-4 c κs = search needs
+
 same-length : tie.Need-same-length
 same-length c = search needs
 
@@ -96,24 +108,36 @@ same-length-3 c = search needs
 
 returns-3 : tie.Need-returns-3
 returns-3 c =
-    let at-put-refusal = c .before .before in
-    let at-enum-told = at-put-refusal .before .before in
-    let at-refine = at-enum-told .before .before .before .before in
-    let at-before = at-refine .before .before in
-    refused-reports (call (at-before .before)) (at-refine .refine .ensures) (at-enum-told .enum-told .given .1) (λ e. omega arith)
-    (at-put-refusal .put-refusal .ensures)
+    let told = c .before .before .before .before in
+    let refined = told .before .before .before .before in
+    never-reports (call (refined .before .before .before)) (refined .refine .ensures) (told .enum-told .given .1) (λ x. x)
 
 same-length-4 : tie.Need-same-length-4
 same-length-4 c = search needs
 
 returns-4 : tie.Need-returns-4
 returns-4 c =
-    let at-put-refusal2 = c .before .before in
-    let at-enum-told2 = at-put-refusal2 .before .before in
-    let at-refine = at-enum-told2 .before .before .before .before in
-    let at-before = at-refine .before .before in
-    refused-reports (call (at-before .before)) (at-refine .refine .ensures) (at-enum-told2 .enum-told2 .given .1)
-    (λ e. omega arith) (at-put-refusal2 .put-refusal2 .ensures)
+    let told = c .before .before .before .before in
+    let refined = told .before .before .before .before in
+    never-reports (call (refined .before .before .before)) (refined .refine .ensures) (told .enum-told2 .given .1) (λ x. x)
+
+same-length-5 : tie.Need-same-length-5
+same-length-5 c = search needs
+
+returns-5 : tie.Need-returns-5
+returns-5 c =
+    let told = c .before .before .before .before in
+    let refined = told .before .before .before .before in
+    never-reports (call (refined .before .before .before)) (refined .refine .ensures) (told .enum-told3 .given .1) (λ x. x)
+
+same-length-6 : tie.Need-same-length-6
+same-length-6 c = search needs
+
+returns-6 : tie.Need-returns-6
+returns-6 c =
+    let told = c .before .before .before .before in
+    let refined = told .before .before .before .before in
+    never-reports (call (refined .before .before .before)) (refined .refine .ensures) (told .enum-told4 .given .1) (λ x. x)
 
 pub put-refined-spec : {M : Type 1} → statement M
 put-refined-spec =
@@ -134,6 +158,10 @@ put-refined-spec =
     put-refusal-requires
     enum-told-2
     put-refusal-requires-2
+    enum-told-3
+    put-refusal-requires-3
+    enum-told-4
+    put-refusal-requires-4
     same-length
     returns
     same-length-2
@@ -141,4 +169,8 @@ put-refined-spec =
     same-length-3
     returns-3
     same-length-4
-    returns-4)
+    returns-4
+    same-length-5
+    returns-5
+    same-length-6
+    returns-6)

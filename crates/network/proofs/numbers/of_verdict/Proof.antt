@@ -15,17 +15,32 @@ enum-known-verdict-2 c = search needs
 of-contradiction-requires : tie.Need-of-contradiction-requires
 of-contradiction-requires c κs = search needs
 
-enum-told : tie.Need-enum-told
-enum-told c = search needs
+enum-known-verdict-3 : tie.Need-enum-known-verdict-3
+enum-known-verdict-3 c = search needs
+
+of-area-requires : tie.Need-of-area-requires
+of-area-requires c κs = search needs
 
 tell-requires-2 : tie.Need-tell-requires-2
 tell-requires-2 c κs = search needs
 
-enum-told-2 : tie.Need-enum-told-2
-enum-told-2 c = search needs
+enum-told : tie.Need-enum-told
+enum-told c = search needs
 
 tell-requires-3 : tie.Need-tell-requires-3
 tell-requires-3 c κs = search needs
+
+enum-told-2 : tie.Need-enum-told-2
+enum-told-2 c = search needs
+
+tell-requires-4 : tie.Need-tell-requires-4
+tell-requires-4 c κs = search needs
+
+enum-told-3 : tie.Need-enum-told-3
+enum-told-3 c = search needs
+
+tell-requires-5 : tie.Need-tell-requires-5
+tell-requires-5 c κs = search needs
 
 returns : tie.Need-returns
 returns c = rw (c .before .before .verdict .given .1) (c .tell .ensures)
@@ -34,10 +49,16 @@ returns-2 : tie.Need-returns-2
 returns-2 c = rw (c .before .before .verdict2 .given .1) (c .of-contradiction .ensures)
 
 returns-3 : tie.Need-returns-3
-returns-3 c = rw (c .before .enum-told .given .1) (c .tell2 .ensures)
+returns-3 c = rw (c .before .before .before .verdict3 .given .1, ← c .before .of-area .ensures) (c .tell2 .ensures)
 
 returns-4 : tie.Need-returns-4
-returns-4 c = rw (c .before .enum-told2 .given .1) (c .tell3 .ensures)
+returns-4 c = rw (c .before .enum-told .given .1) (c .tell3 .ensures)
+
+returns-5 : tie.Need-returns-5
+returns-5 c = rw (c .before .enum-told2 .given .1) (c .tell4 .ensures)
+
+returns-6 : tie.Need-returns-6
+returns-6 c = rw (c .before .enum-told3 .given .1) (c .tell5 .ensures)
 
 pub of-verdict-spec : {M : Type 1} → statement M
 of-verdict-spec =
@@ -47,11 +68,18 @@ of-verdict-spec =
     tell-requires
     enum-known-verdict-2
     of-contradiction-requires
-    enum-told
+    enum-known-verdict-3
+    of-area-requires
     tell-requires-2
-    enum-told-2
+    enum-told
     tell-requires-3
+    enum-told-2
+    tell-requires-4
+    enum-told-3
+    tell-requires-5
     returns
     returns-2
     returns-3
-    returns-4)
+    returns-4
+    returns-5
+    returns-6)

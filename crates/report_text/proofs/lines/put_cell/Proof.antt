@@ -30,8 +30,14 @@ same-length : tie.Need-same-length
 same-length c = search needs
 
 returns : tie.Need-returns
-returns c = let a = c .before .before .before .before .before .before .before .before .before .before .before .before .before .args in
-    cell-adds (a .n) (now (a .identifiers)) (now (a .stated)) (now (a .network)) (a .p) _ _ (c .before .before .before .before .before .before .before .before .if1 .taken) (c .before .before .before .before .before .before .before .identifier-at .ensures) (c .before .before .before .before .before .before .identifier-at2 .ensures) (c .before .before .put-pair .ensures)
+returns c =
+    let at-put-pair = c .before .before in
+    let at-second = at-put-pair .before .before .before .before in
+    let at-first = at-second .before in
+    let at-if1 = at-first .before in
+    let a = at-if1 .before .before .before .before .before .args in
+    cell-adds (a .n) (now (a .identifiers)) (now (a .stated)) (now (a .network)) (a .p) _ _ (at-if1 .if1 .taken) (at-first .identifier-at .ensures)
+    (at-second .identifier-at2 .ensures) (at-put-pair .put-pair .ensures)
 
 returns-2 : tie.Need-returns-2
 returns-2 c = let a = c .before .before .before .before .before .args in

@@ -32,9 +32,18 @@ loop-less : tie.Need-loop-less Inv-loop μ-loop
 loop-less c = search needs
 
 loop-again : tie.Need-loop-again Inv-loop μ-loop
-loop-again c = let a = c .before .before .before .before .before .before .before .before .before .before .args in
-    let inv = c .before .before .before .before .before .loop .inv in
-    (inv .0, record { within = omega arith; long = c .before .before .put-cell .kept .0 ∙ inv .1 .long; lines = pairs-add-cell (a .n) (now (a .identifiers)) (now (a .stated)) (now (a .network)) _ (inv .1 .lines) (c .before .before .put-cell .ensures) })
+loop-again c =
+    let at-put-cell = c .before .before in
+    let at-loop = at-put-cell .before .before .before in
+    let a = at-loop .before .before .before .before .before .args in
+    let inv = at-loop .loop .inv in (
+      inv .0,
+      record {
+        within = omega arith;
+        long = at-put-cell .put-cell .kept .0 ∙ inv .1 .long;
+        lines = pairs-add-cell (a .n) (now (a .identifiers)) (now (a .stated)) (now (a .network)) _ (inv .1 .lines) (at-put-cell .put-cell .ensures);
+      },
+    )
 
 same-length : tie.Need-same-length Inv-loop μ-loop
 same-length c = c .before .loop .inv .1 .long

@@ -1,5 +1,12 @@
 -- `scene::record::statement_at` meets its contract.
-use mathlib.Core.Path.{refl, sym, _∙_}
+use mathlib.Core.Path.{_≡_, refl, sym, _∙_}
+use mathlib.Core.Bool.{cond}
+use Prim.Native.Nat.{_+_}
+use denote.Ref.{now}
+use lib.Dec.{eqb}
+use lib.ListN.{getD, take}
+use Rattle.filing.specs.Said.{naming}
+use Rattle.scene.specs.Record.{Judged, atPlace, fails, states, judgedStatement}
 use borrow.Author.Tests.{eq-eqb, ne-eqb, lt-ltb, le-ltb}
 use Rattle.scene.proofs.Judging.{statement-is}
 use borrow.Author.Needs.{needs}
@@ -56,19 +63,31 @@ enum-known-to c = search needs
 enum-told-2 : tie.Need-enum-told-2
 enum-told-2 c = search needs
 
-returns-3 : tie.Need-returns-3
-returns-3 c =
-    let looked-to = c .before .before in
-    let named-to = looked-to .before in
-    let found = named-to .before .before in
+-- with both identifiers looked up and the first found, the second and the set decide
+by-second : (c : tie.After-place-of2) {judged : Judged}
+    → judged
+    ≡ atPlace (c .place-of2 .result)
+    (λ b. cond (eqb (getD (now (c .before .before .before .before .before .before .before .before .before .before .args .scene)) (c .before .before .before .before .before .before .before .before .before .before .args .at + 9) 0) 0)
+    (fails 10 (c .before .before .before .before .before .before .before .before .before .before .args .at))
+    (states (c .before .before .before .from .given .0 .0) b
+    (getD (now (c .before .before .before .before .before .before .before .before .before .before .args .scene)) (c .before .before .before .before .before .before .before .before .before .before .args .at + 9) 0)))
+    (fails 9 (c .before .before .before .before .before .before .before .before .before .before .args .at))
+    → judged
+    ≡ judgedStatement (now (c .before .before .before .before .before .before .before .before .before .before .args .scene))
+    (naming (take (c .before .before .before .before .before .before .before .before .before .before .args .count) (now (c .before .before .before .before .before .before .before .before .before .before .args .identifiers))))
+    (c .before .before .before .before .before .before .before .before .before .before .args .at)
+by-second c e =
+    let found = c .before .before .before in
     let looked = found .before .before in
-    let named = looked .before in
-    let whole = named .before in
-    let begun = whole .before .before .before in
-    sym
-    (statement-is _ _ _ _ (begun .pre .counted) _ (named .number-at .ensures) _ (looked .place-of .ensures) _ (named-to .number-at2 .ensures) _
-    (looked-to .place-of2 .ensures)
-    ∙ rw (le-ltb _ _ (whole .if1 .left), found .from .given .1, c .enum-told2 .given .1))
+    let whole = looked .before .before in
+    e
+    ∙ sym
+    (statement-is _ _ _ _ (whole .before .before .before .pre .counted) _ (looked .before .number-at .ensures) _ (looked .place-of .ensures) _
+    (c .before .number-at2 .ensures) _ (c .place-of2 .ensures)
+    ∙ rw (le-ltb _ _ (whole .if1 .left), found .from .given .1))
+
+returns-3 : tie.Need-returns-3
+returns-3 c = by-second (c .before .before) (rw (c .enum-told2 .given .1))
 
 add-set : tie.Need-add-set
 add-set c = search needs
@@ -78,33 +97,13 @@ shared-slice-read-set c = search needs
 
 returns-4 : tie.Need-returns-4
 returns-4 c =
-    let found-to = c .before .before .before in
-    let looked-to = found-to .before .before in
-    let named-to = looked-to .before in
-    let found = named-to .before .before in
-    let looked = found .before .before in
-    let named = looked .before in
-    let whole = named .before in
-    let begun = whole .before .before .before in
-    sym
-    (statement-is _ _ _ _ (begun .pre .counted) _ (named .number-at .ensures) _ (looked .place-of .ensures) _ (named-to .number-at2 .ensures) _
-    (looked-to .place-of2 .ensures)
-    ∙ rw (le-ltb _ _ (whole .if1 .left), found .from .given .1, found-to .to .given .1, eq-eqb _ _ (c .if2 .taken)))
+    let found = c .before .before .before in
+    by-second (found .before .before) (rw (found .to .given .1, eq-eqb _ _ (c .if2 .taken)))
 
 returns-5 : tie.Need-returns-5
 returns-5 c =
-    let found-to = c .before .before .before in
-    let looked-to = found-to .before .before in
-    let named-to = looked-to .before in
-    let found = named-to .before .before in
-    let looked = found .before .before in
-    let named = looked .before in
-    let whole = named .before in
-    let begun = whole .before .before .before in
-    sym
-    (statement-is _ _ _ _ (begun .pre .counted) _ (named .number-at .ensures) _ (looked .place-of .ensures) _ (named-to .number-at2 .ensures) _
-    (looked-to .place-of2 .ensures)
-    ∙ rw (le-ltb _ _ (whole .if1 .left), found .from .given .1, found-to .to .given .1, ne-eqb _ _ (c .if2 .left)))
+    let to = c .before .before .before in
+    by-second (to .before .before) (rw (to .to .given .1, ne-eqb _ _ (c .if2 .left)))
 
 pub statement-at-spec : {M : Type 1} → statement M
 statement-at-spec =

@@ -1,4 +1,4 @@
--- `prepare::emptied_region` meets its contract. The loop's invariant: no region below i is left empty.
+-- `preparing::emptied_region` meets its contract. The loop's invariant: no region below i is left empty.
 use mathlib.Core.Path.{_≡_}
 use mathlib.Core.Bool.{false}
 use Prim.Native.Nat.{ℕ, _≤_, _<_, _-_}
@@ -9,8 +9,8 @@ use Rattle.lists.proofs.LeastLaws.{least-here, least-gone, below-next}
 use Rattle.matrix.specs.Cells.{cell}
 use Rattle.refinement.specs.Node.{node, emptyRegion}
 use Rattle.network.proofs.Prepared.{node-test}
-use Rattle.network.proofs.prepare.emptied_region.Statement.{statement}
-use Rattle.network.proofs.prepare.emptied_region.Tie as tie
+use Rattle.network.proofs.preparing.emptied_region.Statement.{statement}
+use Rattle.network.proofs.preparing.emptied_region.Tie as tie
 
 abbrev Inv-loop : tie.InvT-loop
 Inv-loop n cells i₀ i = (i ≤ n) × ((k : ℕ) → k < i → eqb (cell n (node n cells) k k) 0 ≡ false)

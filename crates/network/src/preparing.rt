@@ -1,4 +1,7 @@
-// What comes before the rounds: the node rule and the arc rule. Only the first area is written.
+// What comes before the rounds: the node rule and the arc rule, from the cells into the first area.
+use crate::Contradiction;
+use crate::Start;
+use crate::areas::clear;
 use matrix::at;
 use refinement::Preparation;
 use region::Place;
@@ -9,7 +12,7 @@ ghost use Rattle.matrix.specs.Square.{Square};
 ghost use Rattle.refinement.specs.Node.{nodeCell, node, emptyRegion};
 ghost use Rattle.refinement.specs.Arc.{arcCell};
 ghost use Rattle.refinement.specs.Prepare.{prepared};
-ghost use Rattle.network.specs.Inner.{Prepares};
+ghost use Rattle.network.specs.Inner.{Prepares, Readies, startedWith};
 
 // Cell (i, j) by the node rule.
 fn node_cell(n: usize, cells: &[u8], i: usize, j: usize) -> RelationSet
@@ -61,7 +64,7 @@ fn arc_stage(n: usize, cells: &[u8], area: &mut [u8])
 }
 
 // The node and arc rules; the first area then holds what the rounds start from, unless a set ran empty.
-pub(crate) fn prepare(n: usize, cells: &[u8], first: &mut [u8]) -> Preparation
+fn node_and_arc(n: usize, cells: &[u8], first: &mut [u8]) -> Preparation
     requires { ⌜ Square n (now cells) × Square n (now first) ⌝ }
     ensures { λ r. ⌜ Prepares n (now (cells .entry)) (now (first .entry)) (now (first .exit)) r ⌝ }
 {
@@ -75,4 +78,23 @@ pub(crate) fn prepare(n: usize, cells: &[u8], first: &mut [u8]) -> Preparation
         return Preparation::Pair(Place(place / n), Place(place % n));
     }
     Preparation::Ready
+}
+
+// Preparation in areas of exactly n² bytes: a contradiction clears both.
+pub(crate) fn make_ready(n: usize, cells: &[u8], first: &mut [u8], second: &mut [u8]) -> Start
+    requires { ⌜ Square n (now cells) × Square n (now first) × Square n (now second) ⌝ }
+    ensures { λ r. ⌜ Readies n (startedWith n (now (cells .entry))) (now (first .entry)) (now (second .entry)) (now (first .exit)) (now (second .exit)) r ⌝ }
+{
+    let preparation = node_and_arc(n, cells, first);
+    match preparation {
+        Preparation::Region(i) => {
+            clear(first, second);
+            Start::Refused(Contradiction::Region(i))
+        }
+        Preparation::Pair(i, j) => {
+            clear(first, second);
+            Start::Refused(Contradiction::Pair(i, j))
+        }
+        Preparation::Ready => Start::Ready,
+    }
 }

@@ -1,4 +1,4 @@
--- `prepare::arc_stage` meets its contract. The loop's invariant: the cells before the place are those of the arc stage.
+-- `preparing::arc_stage` meets its contract. The loop's invariant: the cells before the place are those of the arc stage.
 use mathlib.Core.Path.{_≡_, sym, _∙_}
 use Prim.Native.Nat.{_-_}
 use borrow.Author.Needs.{needs}
@@ -10,8 +10,8 @@ use Rattle.refinement.specs.Prepare.{prepared}
 use Rattle.lists.proofs.Filling.{Filling, filling-begins, filling-more, filling-ends}
 use Rattle.refinement.proofs.Stages.{length-arc}
 use Rattle.network.proofs.Prepared.{prepared-at}
-use Rattle.network.proofs.prepare.arc_stage.Statement.{statement}
-use Rattle.network.proofs.prepare.arc_stage.Tie as tie
+use Rattle.network.proofs.preparing.arc_stage.Statement.{statement}
+use Rattle.network.proofs.preparing.arc_stage.Tie as tie
 
 abbrev Inv-loop : tie.InvT-loop
 Inv-loop n cells area₀ place₀ area place = Filling (prepared n cells) area₀ area place

@@ -1,8 +1,8 @@
--- `prepare::arc_cell` meets its contract: the cells of the node stage are those of `node_cell`.
+-- `preparing::arc_cell` meets its contract: the cells of the node stage are those of `node_cell`.
 use borrow.Author.Needs.{needs}
 use Rattle.network.proofs.Prepared.{arc-of-nodes}
-use Rattle.network.proofs.prepare.arc_cell.Statement.{statement}
-use Rattle.network.proofs.prepare.arc_cell.Tie as tie
+use Rattle.network.proofs.preparing.arc_cell.Statement.{statement}
+use Rattle.network.proofs.preparing.arc_cell.Tie as tie
 
 node-cell-requires : tie.Need-node-cell-requires
 node-cell-requires c κs = search needs

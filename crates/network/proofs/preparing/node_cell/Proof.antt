@@ -1,9 +1,9 @@
--- `prepare::node_cell` meets its contract: the two cases are those of the definition.
+-- `preparing::node_cell` meets its contract: the two cases are those of the definition.
 use borrow.Author.Needs.{needs}
 use Rattle.network.proofs.Searches.{cell-in}
 use Rattle.network.proofs.Prepared.{node-on-diagonal, node-off-diagonal}
-use Rattle.network.proofs.prepare.node_cell.Statement.{statement}
-use Rattle.network.proofs.prepare.node_cell.Tie as tie
+use Rattle.network.proofs.preparing.node_cell.Statement.{statement}
+use Rattle.network.proofs.preparing.node_cell.Tie as tie
 
 at-requires : tie.Need-at-requires
 at-requires c κs = search needs

@@ -1,4 +1,4 @@
--- What reading the input promises: no more bytes than there is space for.
+-- What functions inside the program promise one another: reading the input takes no more bytes than there is space for.
 use Prim.Native.Nat.{ℕ}
 use mathlib.Core.List.{List}
 use Rattle.io.specs.Counts.{Counts}

@@ -1,10 +1,10 @@
--- `prepare::prepare` meets its contract: its tests are those of the definition.
+-- `preparing::node_and_arc` meets its contract: its tests are those of the definition.
 use native.Mathlib.Omega.{arith}
 use borrow.Author.Needs.{needs}
 use Rattle.matrix.proofs.CellLaws.{row-lt}
 use Rattle.network.proofs.Prepared.{prepares-region, prepares-pair, prepares-ready}
-use Rattle.network.proofs.prepare.prepare.Statement.{statement}
-use Rattle.network.proofs.prepare.prepare.Tie as tie
+use Rattle.network.proofs.preparing.node_and_arc.Statement.{statement}
+use Rattle.network.proofs.preparing.node_and_arc.Tie as tie
 
 emptied-region-requires : tie.Need-emptied-region-requires
 emptied-region-requires c κs = search needs
@@ -55,8 +55,8 @@ returns-3 c =
     prepares-ready _ _ _ _ (kept .before .emptied-region .ensures) (kept .if1 .left) _ (made searched .arc-stage .ensures) _
     (searched .first-empty .ensures) (omega arith)
 
-pub prepare-spec : {M : Type 1} → statement M
-prepare-spec =
+pub node-and-arc-spec : {M : Type 1} → statement M
+node-and-arc-spec =
     tie.close
     (tie.spec
     emptied-region-requires
