@@ -30,7 +30,7 @@ def first_error(log, where):
     errors = [found.groups() for found in ERROR.finditer(text) if "was not admitted" not in found.group(2)]
     if errors:
         path, said = errors[0]
-        path = path.replace(str(where) + "/", "")
+        path = path.split(f"/must-fail/{where.parent.name}/{where.name}/", 1)[-1]
         place = re.sub(r"^proofs/|/Proof\.antt$|\.antt$", "", path)
         need = re.match(r"`([^`]+)`", said)
         return place, need.group(1) if need else "?", said
