@@ -61,8 +61,18 @@ report_in_pieces() {
         same "$WORK/whole.txt" "$WORK/pieces.txt"
 }
 
+# What is written down for a scene, byte by byte.
+report_written_down() {
+    for text in tests/reported/*.txt; do
+        name=${text##*/}
+        tools/scene make "tests/scenes/$name" -o "$WORK/written.scene" &&
+            report_on "$WORK/written.scene" > "$WORK/written.txt" && same "$text" "$WORK/written.txt" || return 1
+        written=$((written + 1))
+    done
+}
+
 report_as_a_program() {
-    reported=0
-    report_statuses && report_failures && report_in_pieces &&
-        echo "$reported examples with their exit statuses; 6 failures told"
+    reported=0 written=0
+    report_statuses && report_failures && report_in_pieces && report_written_down &&
+        echo "$reported examples with their exit statuses; 6 failures told; $written reports as written down"
 }

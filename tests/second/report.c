@@ -12,10 +12,10 @@ static int size_of(uint8_t set)
     return size;
 }
 
-/* What became of a stated set: given, deduced, narrowed, kept or unknown. */
-static char class_of(uint8_t stated, uint8_t refined)
+/* What became of what was stated of a pair, there and back: given, deduced, narrowed, kept or unknown. */
+static char class_of(uint8_t there, uint8_t back, uint8_t refined)
 {
-    int s = size_of(stated), f = size_of(refined);
+    int s = size_of(there & converse(back)), f = size_of(refined);
 
     if (s == 1)
         return 'O';
@@ -43,7 +43,8 @@ static size_t report_pairs(char *text, size_t n, const uint8_t *identifiers,
             length += (size_t)sprintf(text + length, "%lu %lu %u %c\n",
                                       identifier_at(identifiers, i), identifier_at(identifiers, j),
                                       refined[i * n + j],
-                                      class_of(stated[i * n + j], refined[i * n + j]));
+                                      class_of(stated[i * n + j], stated[j * n + i],
+                                               refined[i * n + j]));
     return length;
 }
 

@@ -2,6 +2,7 @@
 pub mod PlaceLaws
 -- what statements make of a cell
 pub mod StatedLaws
+pub mod TurnedLaws
 -- the areas: their lengths, padded lists, packed rows, and what they hold while statements are filed
 pub mod Lending
 pub mod Padded

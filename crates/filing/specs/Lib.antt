@@ -1,5 +1,6 @@
 pub mod Said
 pub mod Places
 pub mod Stated
+pub mod Turned
 pub mod Areas
 pub mod Inner

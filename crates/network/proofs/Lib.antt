@@ -23,3 +23,4 @@ pub mod NeverUnprepared
 -- demand 3 about the calls, and what follows
 pub mod Demand3
 pub mod Consequences
+pub mod SameArcs

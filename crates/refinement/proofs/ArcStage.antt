@@ -17,7 +17,8 @@ use Rattle.matrix.proofs.CellLaws.{ext-cell}
 use Rattle.refinement.specs.Node.{node, emptyRegion}
 use Rattle.refinement.specs.Prepare.{prepared, preparation}
 use Rattle.refinement.specs.Refine.{refine}
-use Rattle.refinement.proofs.Stages.{length-arc, prepared-cell, prepared-region}
+use Rattle.refinement.specs.Network.{Below, Network}
+use Rattle.refinement.proofs.Stages.{length-arc, prepared-cell, prepared-region, network-node, network-arc}
 
 -- ---- its cells, straight from those that were stated
 
@@ -43,6 +44,11 @@ prepared-on n m i h =
 pub prepared-off : (n : ℕ) (m : List ℕ) (i j : ℕ) → i < n → j < n → (i ≡ j → ⊥)
     → cell n (prepared n m) i j ≡ intersect (cell n m i j) (converse (cell n m j i))
 prepared-off n m i j hi hj d = prepared-cell n m i j hi hj ∙ rw (ne-eqb i j d, ne-eqb j i (λ e. d (sym e)))
+
+-- ---- a network within the stated sets is within what it leaves of them
+
+pub network-prepared : {n : ℕ} {m w : List ℕ} → Network n m w → Below n w (prepared n m)
+network-prepared {n} {m} N = network-arc (node n m) N (network-node m N (N .within))
 
 -- ---- matrices that agree after it
 

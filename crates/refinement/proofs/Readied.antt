@@ -36,6 +36,15 @@ number-refused (Region i) m other h = refl
 number-refused (Pair i j) m other h = refl
 number-refused Ready m other h = absurd (h refl)
 
+-- of an accepted matrix it is accepted too
+pub accepted-readied : {n : ℕ} {m w : List ℕ} {first second count : ℕ} → InRange n m first second → refine n m ≡ accepted w count
+    → Readied n m first second
+accepted-readied {n} {m} range e = record {
+  range = range;
+  ready = number-ready (preparation n m) (allRounds n (prepared n m))
+      (ap (λ (x : Ending (List ℕ)). answered x .number) (sym (refine-by n m refl) ∙ e));
+}
+
 module _ (n : ℕ) (m : List ℕ) (first second : ℕ) where
   unfoldable readies : Unit {0} → Ending (List ℕ)
   readies = λ _. started (preparation n m) (λ _. accepted (prepared n m) 0)

@@ -1,4 +1,4 @@
--- Document 01's example scene and its variant: their reports, by computation.
+-- The documents' example scenes: their reports, by computation.
 use mathlib.Core.Path.{_≡_, refl}
 use mathlib.Core.List.{List, [], _∷_, _++_}
 use Prim.Native.Nat.{ℕ}
@@ -44,13 +44,33 @@ example-text =
     ++ (57 ∷ 32 ∷ 52 ∷ 32 ∷ 56 ∷ 32 ∷ 79 ∷ 10 ∷ [])
 
 pub example-report : reportOf (example 4) ≡ example-text
-unfolding reportOf pairLines classOf line decimalUpTo readScene readFrom recordAt judgedRegion judgedStatement judgedEnd placeOf lengthOf lookupOf firstHolding statedCell grid tabled refine preparation stepOf node emptyRegion arc rounds round through ranOut mostRounds firstEmpty firstChange least leastFrom has unionOf over membersBelow size flip converse rows table compose example example-text
+unfolding reportOf pairLines classOf line decimalUpTo readScene readFrom recordAt judgedRegion judgedStatement judgedEnd placeOf
+    lengthOf lookupOf firstHolding statedCell grid tabled refine preparation stepOf node emptyRegion arc rounds round through
+    ranOut mostRounds firstEmpty firstChange least leastFrom has unionOf over membersBelow size flip converse rows table compose
+    example example-text
 example-report = refl
+
+-- the pair 7 and 9 stated backwards alone, "9 contains 7": its report is `accepted 2 0` and `7 9 8 O`
+pub backwards : List ℕ
+backwards =
+    (1 ∷ 0 ∷ 0 ∷ 0 ∷ 7 ∷ []) ++ (1 ∷ 0 ∷ 0 ∷ 0 ∷ 9 ∷ []) ++ (2 ∷ 0 ∷ 0 ∷ 0 ∷ 9 ∷ 0 ∷ 0 ∷ 0 ∷ 7 ∷ 32 ∷ []) ++ (3 ∷ [])
+
+pub backwards-text : List ℕ
+backwards-text =
+    (97 ∷ 99 ∷ 99 ∷ 101 ∷ 112 ∷ 116 ∷ 101 ∷ 100 ∷ 32 ∷ 50 ∷ 32 ∷ 48 ∷ 10 ∷ []) ++ (55 ∷ 32 ∷ 57 ∷ 32 ∷ 56 ∷ 32 ∷ 79 ∷ 10 ∷ [])
+
+pub backwards-report : reportOf backwards ≡ backwards-text
+unfolding reportOf pairLines classOf line decimalUpTo readScene readFrom recordAt judgedRegion judgedStatement judgedEnd placeOf
+    lengthOf lookupOf firstHolding statedCell grid tabled refine preparation stepOf node emptyRegion arc rounds round through
+    ranOut mostRounds firstEmpty firstChange least leastFrom has unionOf over membersBelow size flip converse rows table compose
+    backwards backwards-text
+backwards-report = refl
 
 -- with the third identifier 9 as well: `refused 7 10 0 0` and a line feed
 pub twice-text : List ℕ
 twice-text = 114 ∷ 101 ∷ 102 ∷ 117 ∷ 115 ∷ 101 ∷ 100 ∷ 32 ∷ 55 ∷ 32 ∷ 49 ∷ 48 ∷ 32 ∷ 48 ∷ 32 ∷ 48 ∷ 10 ∷ []
 
 pub twice-report : reportOf (example 9) ≡ twice-text
-unfolding reportOf line decimalUpTo readScene readFrom recordAt judgedRegion judgedStatement judgedEnd placeOf lengthOf lookupOf firstHolding least leastFrom example twice-text
+unfolding reportOf line decimalUpTo readScene readFrom recordAt judgedRegion judgedStatement judgedEnd placeOf lengthOf lookupOf
+    firstHolding least leastFrom example twice-text
 twice-report = refl

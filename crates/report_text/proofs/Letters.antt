@@ -1,5 +1,5 @@
 -- The class rule on the report itself: in an accepted scene's report every pair's letter is the one that the rule gives.
-use mathlib.Core.Path.{_≡_, ap, _∙_, subst}
+use mathlib.Core.Path.{_≡_, ap, _∙_}
 use mathlib.Core.List.{List}
 use Prim.Native.Nat.{ℕ, _<_}
 use native.Mathlib.Omega.{arith}
@@ -11,33 +11,22 @@ use lib.ListN.{length, take}
 use lib.Seq.{take-all}
 use Rattle.lists.proofs.LaidLaws.{take-laid}
 use Rattle.answer.specs.Ending.{accepted}
-use Rattle.relation.specs.Sets.{size}
-use Rattle.relation.proofs.Size.{size-within, size-some, size-most}
-use Rattle.matrix.specs.Cells.{cell}
-use Rattle.refinement.specs.Network.{Network}
-use Rattle.refinement.specs.Ends.{Ends}
 use Rattle.refinement.specs.Refine.{refine}
-use Rattle.refinement.proofs.Stages.{network-bytes}
-use Rattle.refinement.proofs.Ending.{refine-ends}
 use Rattle.filing.specs.Said.{Said, regions}
 use Rattle.filing.specs.Stated.{cellsOf}
 use Rattle.scene.specs.Reading.{acceptedSaid, readScene}
 use Rattle.scene.specs.Reads.{startingCell}
-use Rattle.report_text.specs.Rule.{Rule}
-use Rattle.report_text.specs.Report.{letter, refinedReport, readReport, reportOf, Reported}
+use Rattle.report_text.specs.Report.{refinedReport, readReport, reportOf, Reported}
 use Rattle.report_text.specs.Letters.{Shows}
-use Rattle.report_text.proofs.ClassLaws.{class-rule}
+use Rattle.report_text.proofs.ClassLaws.{sizes-occur, class-rule}
 use Rattle.report_text.proofs.report.Kinds as reporting
 use Rattle.report_text.proofs.report.Reads.{Post as Reports}
 
--- the letter of two cells of a network and of the matrix it lies within
-pub network-letter : {n : ℕ} {stated network : List ℕ} → Network n stated network → (i j : ℕ) → i < n → j < n
-    → Rule (size (cell n stated i j)) (size (cell n network i j)) (letter n stated network i j)
-network-letter {n} {stated} {network} N i j hi hj =
-    class-rule (size (cell n stated i j)) (size (cell n network i j))
-    (size-some (cell n network i j) (network-bytes N .byte i j hi hj) (N .filled i j hi hj))
-    (size-within (N .within .cells i j hi hj))
-    (size-most (cell n stated i j))
+-- what stands in front of the buffer is the report
+pub printed : {scene buffer buffer′ : List ℕ} {count : ℕ} → Reported scene buffer buffer′ count → take count buffer′ ≡ reportOf scene
+printed {scene} {buffer} {count = count} call =
+    let whole : count ≡ length (reportOf scene) = call .size in
+    ap (take count) (call .text) ∙ take-laid count (reportOf scene) buffer (omega arith) ∙ take-all count (reportOf scene) (omega arith)
 
 module _ {scene buffer buffer′ : List ℕ} {count : ℕ} (call : Reported scene buffer buffer′ count) {said : Said} {network : List ℕ} {rounds : ℕ}
     (read : readScene scene ≡ acceptedSaid said) (refined : refine (regions said) (cellsOf startingCell said) ≡ accepted network rounds) where
@@ -49,15 +38,11 @@ module _ {scene buffer buffer′ : List ℕ} {count : ℕ} (call : Reported scen
 
   pub report-shows : Shows (regions said) (said .identifiers) (cellsOf startingCell said) network rounds count buffer′
   unfolding reportOf
-  report-shows =
-      let printed : reportOf scene ≡ readReport (acceptedSaid said) = ap readReport read in
-      let whole : count ≡ length (reportOf scene) = call .size in
-      record {
-        text = ap (take count) (call .text) ∙ take-laid count (reportOf scene) buffer (omega arith)
-            ∙ take-all count (reportOf scene) (omega arith) ∙ printed ∙ ap (refinedReport n (said .identifiers) stated) refined;
-        rule = λ i j h hj.
-            network-letter (subst (Ends n stated) refined (refine-ends n stated) .largest .network) i j (omega arith) hj;
-      }
+  report-shows = record {
+    text = printed call ∙ ap readReport read ∙ ap (refinedReport n (said .identifiers) stated) refined;
+    rule = λ i j h hj. class-rule n stated refined i j (omega arith) hj;
+    sizes = λ i j h hj. sizes-occur n stated refined i j (omega arith) hj;
+  }
 
 -- about the call itself
 pub report-call-shows : (κs : Lfts 2) (a : Dens κs reporting.ps) (count : resT reporting.r κs .Denot)

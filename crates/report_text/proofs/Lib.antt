@@ -6,8 +6,9 @@ pub mod Short
 pub mod Verdicts
 pub mod Refinements
 pub mod Readings
--- the class rule on the report itself
+-- the class rule on the report itself, from whichever side a pair was stated
 pub mod Letters
+pub mod Directions
 -- no second answer meets a contract
 pub mod Unique
 -- the document's examples

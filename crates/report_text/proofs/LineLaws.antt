@@ -57,36 +57,36 @@ five-adds {a} {b} {c} {d} {e} p q r s t u =
 
 -- ---- the lines of pairs
 
-module _ (n : ℕ) (identifiers stated network : List ℕ) (p : ℕ) where
+module _ (n : ℕ) (identifiers arcs network : List ℕ) (p : ℕ) where
   -- a cell above the diagonal has its pair's line
   pub cell-adds : {b b′ : List ℕ} {at next : ℕ} (first second : ℕ) → row n p < column n p → first ≡ getD identifiers (row n p) 0
-      → second ≡ getD identifiers (column n p) 0 → Adds (setsLine first second (getD stated p 0) (getD network p 0)) b at b′ next
-      → Adds (cellLine n identifiers stated network p) b at b′ next
+      → second ≡ getD identifiers (column n p) 0 → Adds (setsLine first second (getD arcs p 0) (getD network p 0)) b at b′ next
+      → Adds (cellLine n identifiers arcs network p) b at b′ next
   cell-adds first second h e f a =
       rw (lt-ltb (row n p) (column n p) h, place-back n p, ← e, ← f) a
 
   -- and any other has none
-  pub cell-adds-none : (b : List ℕ) (at : ℕ) → column n p ≤ row n p → Adds (cellLine n identifiers stated network p) b at b at
+  pub cell-adds-none : (b : List ℕ) (at : ℕ) → column n p ≤ row n p → Adds (cellLine n identifiers arcs network p) b at b at
   cell-adds-none b at h = rw (le-ltb (row n p) (column n p) h) (adds-none b at)
 
   -- the lines of one cell more
-  pub pairs-add-cell : {b₀ b b′ : List ℕ} {at₀ at next : ℕ} → Adds (pairLines p n identifiers stated network) b₀ at₀ b at
-      → Adds (cellLine n identifiers stated network p) b at b′ next → Adds (pairLines (p + 1) n identifiers stated network) b₀ at₀ b′ next
+  pub pairs-add-cell : {b₀ b b′ : List ℕ} {at₀ at next : ℕ} → Adds (pairLines p n identifiers arcs network) b₀ at₀ b at
+      → Adds (cellLine n identifiers arcs network p) b at b′ next → Adds (pairLines (p + 1) n identifiers arcs network) b₀ at₀ b′ next
   unfolding pairLines
   pairs-add-cell a c = rw (add-one p) (adds-adds a c)
 
-pub pairs-add-none : (n : ℕ) (identifiers stated network b : List ℕ) (at : ℕ) → Adds (pairLines 0 n identifiers stated network) b at b at
+pub pairs-add-none : (n : ℕ) (identifiers arcs network b : List ℕ) (at : ℕ) → Adds (pairLines 0 n identifiers arcs network) b at b at
 unfolding pairLines
-pairs-add-none n identifiers stated network b at = adds-none b at
+pairs-add-none n identifiers arcs network b at = adds-none b at
 
 -- the lines of the first p cells are put
-pub record Lines (n : ℕ) (identifiers stated network b₀ : List ℕ) (at₀ p : ℕ) (b : List ℕ) (at : ℕ) : Type 0 where
+pub record Lines (n : ℕ) (identifiers arcs network b₀ : List ℕ) (at₀ p : ℕ) (b : List ℕ) (at : ℕ) : Type 0 where
   pub within : p ≤ n * n
   pub long : length b ≡ length b₀
-  pub lines : Adds (pairLines p n identifiers stated network) b₀ at₀ b at
+  pub lines : Adds (pairLines p n identifiers arcs network) b₀ at₀ b at
 
-pub pairs-all : {n : ℕ} {identifiers stated network b₀ : List ℕ} {at₀ p : ℕ} {b : List ℕ} {at : ℕ}
-    → Lines n identifiers stated network b₀ at₀ p b at → n * n ≤ p → Adds (pairLines (n * n) n identifiers stated network) b₀ at₀ b at
-pairs-all {n} {identifiers} {stated} {network} {p = p} l h =
+pub pairs-all : {n : ℕ} {identifiers arcs network b₀ : List ℕ} {at₀ p : ℕ} {b : List ℕ} {at : ℕ}
+    → Lines n identifiers arcs network b₀ at₀ p b at → n * n ≤ p → Adds (pairLines (n * n) n identifiers arcs network) b₀ at₀ b at
+pairs-all {n} {identifiers} {arcs} {network} {p = p} l h =
     let e : p ≡ n * n = omega (arith, l .within) in
-    renamed (ap (λ (x : ℕ). pairLines x n identifiers stated network) e) (l .lines)
+    renamed (ap (λ (x : ℕ). pairLines x n identifiers arcs network) e) (l .lines)

@@ -11,6 +11,7 @@ use Rattle.answer.specs.Ending.{Ending, accepted, refused}
 use Rattle.matrix.specs.Square.{Square}
 use Rattle.matrix.specs.Cells.{grid, row, column}
 use Rattle.matrix.proofs.CellLaws.{length-grid}
+use Rattle.refinement.specs.Prepare.{prepared}
 use Rattle.refinement.specs.Refine.{refine}
 use Rattle.filing.specs.Stated.{statedCell}
 use Rattle.filing.specs.Areas.{Areas, Lent, holding, padded}
@@ -87,13 +88,13 @@ module _ {scene identifiers cells : List ℕ} {n : ℕ} (a : AcceptedScene scene
 -- ---- identifiers and the zeros behind them
 
 module _ (n : ℕ) (one other stated : List ℕ) (same : (k : ℕ) → getD one k 0 ≡ getD other k 0) where
-  same-pairs : (network : List ℕ) (count : ℕ) → pairLines count n one stated network ≡ pairLines count n other stated network
+  same-pairs : (arcs network : List ℕ) (count : ℕ) → pairLines count n one arcs network ≡ pairLines count n other arcs network
   unfolding pairLines
-  same-pairs network zero = refl
-  same-pairs network (suc count) = rw (same-pairs network count, same (row n count), same (column n count))
+  same-pairs arcs network zero = refl
+  same-pairs arcs network (suc count) = rw (same-pairs arcs network count, same (row n count), same (column n count))
 
   same-report : (ending : Ending (List ℕ)) → refinedReport n one stated ending ≡ refinedReport n other stated ending
-  same-report (accepted network count) = rw (same-pairs network (n * n))
+  same-report (accepted network count) = rw (same-pairs (prepared n stated) network (n * n))
   same-report (refused x) = rw (same (x .first), same (x .second), same (x .third))
 
 pub accepted-reported : {scene identifiers cells buffer buffer′ : List ℕ} {n count : ℕ} → AcceptedScene scene identifiers cells n

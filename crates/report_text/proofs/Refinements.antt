@@ -1,24 +1,35 @@
 -- The report of a refinement, by its verdict.
-use mathlib.Core.Path.{_≡_, sym, ap, subst}
-use mathlib.Core.List.{List, _++_}
+use mathlib.Core.Path.{_≡_, sym, ap, _∙_, subst}
+use mathlib.Core.List.{List}
 use Prim.Native.Nat.{ℕ, _*_, _≤_, _<_}
 use native.Mathlib.Nat.{mul-le-mul}
 use native.Mathlib.Omega.{arith}
-use lib.ListN.{length, getD, replicate, length-replicate, List·getD-eq-default}
+use lib.ListN.{length, getD, take, replicate, length-replicate, List·getD-eq-default}
+use lib.Seq.{take-all}
 use Rattle.lists.proofs.Splits.{split-lt}
+use Rattle.lists.proofs.LaidLaws.{take-laid}
 use Rattle.answer.specs.Answer.{Answer}
+use Rattle.answer.specs.Ending.{Ending, accepted}
 use Rattle.matrix.proofs.CellLaws.{by-cell}
 use Rattle.matrix.specs.Square.{Square}
 use Rattle.refinement.specs.InRange.{InRange}
+use Rattle.refinement.specs.Node.{node}
+use Rattle.refinement.specs.Prepare.{prepared}
 use Rattle.refinement.specs.Refine.{refine}
-use Rattle.refinement.proofs.Stages.{network-bytes}
+use Rattle.refinement.specs.Run.{readied}
+use Rattle.refinement.specs.Ends.{Ends}
+use Rattle.refinement.proofs.Stages.{length-arc, network-bytes}
+use Rattle.refinement.proofs.Ending.{refine-ends}
+use Rattle.refinement.proofs.Readied.{accepted-readied, readied-ending}
 use Rattle.network.specs.declared.Area.{Area}
 use Rattle.network.specs.declared.Contradiction.{Contradiction}
+use Rattle.network.specs.declared.Start.{Start}
 use Rattle.network.specs.declared.Verdict.{Verdict}
 use Rattle.network.specs.declared.Verdict.the-variants.{Accepted, Refused}
 use Rattle.network.specs.Numbers.{answerOf}
 use Rattle.network.specs.Carries.{Carries}
-use Rattle.network.specs.Refined.{Refined}
+use Rattle.network.specs.Refined.{Refined, leaves}
+use Rattle.network.specs.Prepared.{Prepared}
 use Rattle.network.specs.Handed.{Handed}
 use Rattle.network.proofs.Consequences.{refine-carries}
 use Rattle.text.specs.Put.{Adds}
@@ -46,13 +57,16 @@ pub record Call (n : ℕ) (identifiers stated : List ℕ) : Type 0 where
   pub stated-so : Square n stated
   pub identifiers-small : (k : ℕ) → getD identifiers k 0 < 4294967296
 
+-- which are long enough
+lent-range : {n : ℕ} {stated : List ℕ} → Square n stated → InRange n stated (length area) (length area)
+lent-range {n} s =
+    let long : n * n ≤ length area = omega (arith, length-replicate {A = ℕ} 4096 0, mul-le-mul (s .few) (s .few)) in
+    record { square = s; first-long = long; second-long = long }
+
 module _ {n : ℕ} {identifiers stated first′ second′ : List ℕ} {verdict : Verdict} (c : Call n identifiers stated)
     (v : Refined n stated area area first′ second′ verdict) where
   range : InRange n stated (length area) (length area)
-  range =
-      let long : n * n ≤ length area =
-      omega (arith, length-replicate {A = ℕ} 4096 0, mul-le-mul (c .stated-so .few) (c .stated-so .few)) in
-      record { square = c .stated-so; first-long = long; second-long = long }
+  range = lent-range (c .stated-so)
 
   -- the network that an acceptance hands back
   pub accepted-network : {regions rounds : ℕ} {named : Area} {part : List ℕ} {at-first at-second at-part : ℕ × ℕ}
@@ -89,21 +103,54 @@ small-sets {n} {network = network} w k =
     split-lt k (n * n) (λ h. by-cell n (λ (p : ℕ). getD network p 0 < 256) (network-bytes (w .largest .network) .byte) k h)
     (λ h. rw (List·getD-eq-default network 0 {n = k} (omega (arith, w .largest .network .size))) (omega arith))
 
-pub network-paired : {n : ℕ} {identifiers stated : List ℕ} {rounds : ℕ} {network : List ℕ} → Call n identifiers stated
-    → HandedBack n stated rounds network → Paired n stated network
-network-paired c w = record { regions = c .stated-so; refined = w .largest .network .size }
+-- ---- an acceptance
 
--- an acceptance's first line, and the lines of its pairs
-pub accepted-reports : {n : ℕ} {identifiers stated : List ℕ} {rounds : ℕ} {network b₀ b₁ b₂ : List ℕ} {a₁ a₂ : ℕ} → Call n identifiers stated
-    → HandedBack n stated rounds network → Adds (acceptedLine n rounds) b₀ 0 b₁ a₁
-    → Adds (pairLines (n * n) n identifiers stated network) b₁ a₁ b₂ a₂
-    → Reports (refinedReport n identifiers stated (refine n stated)) b₀ b₂ a₂
-accepted-reports {n} {identifiers} {stated} {rounds} {network} c w p q =
-    let same : refinedReport n identifiers stated (refine n stated) ≡ acceptedLine n rounds ++ pairLines (n * n) n identifiers stated network =
-    ap (refinedReport n identifiers stated) (w .ending) in
+-- what is known of an accepted matrix
+pub record AcceptedMatrix (n : ℕ) (stated network : List ℕ) (rounds : ℕ) : Type 0 where
+  pub stated-so : Square n stated
+  pub ending : refine n stated ≡ accepted network rounds
+
+module _ {n : ℕ} {stated network : List ℕ} {rounds : ℕ} (a : AcceptedMatrix n stated network rounds) where
+  pub cells-few : n * n ≤ 4096
+  cells-few = mul-le-mul (a .stated-so .few) (a .stated-so .few)
+
+  -- n² cells beside those of the network
+  pub network-paired : {cells : List ℕ} → length cells ≡ n * n → Paired n cells network
+  network-paired long = record {
+    regions = record { some = a .stated-so .some; few = a .stated-so .few; size = long };
+    refined = subst (Ends n stated) (a .ending) (refine-ends n stated) .largest .network .size;
+  }
+
+  module _ {first′ second′ : List ℕ} {start : Start} (prepares : Prepared n stated area area first′ second′ start) where
+    -- prepared, the first area has the arc stage in front
+    pub arcs-front : take (n * n) first′ ≡ prepared n stated
+    unfolding leaves
+    arcs-front =
+        let size : length (prepared n stated) ≡ n * n = length-arc n (node n stated) in
+        let ended : readied n stated (length area) (length area) ≡ accepted (prepared n stated) 0 =
+        readied-ending n stated (length area) (length area) (accepted-readied (lent-range (a .stated-so)) (a .ending)) in
+        ap (take (n * n)) (prepares .inFirst ∙ ap (λ (e : Ending (List ℕ)). leaves n e area) ended)
+        ∙ take-laid (n * n) (prepared n stated) area (omega (arith, size))
+        ∙ take-all (n * n) (prepared n stated) (omega (arith, size))
+
+    pub arcs-long : length (take (n * n) first′) ≡ n * n
+    arcs-long = ap length arcs-front ∙ length-arc n (node n stated)
+
+    -- the first line, and the lines of the pairs
+    pub network-adds : (identifiers : List ℕ) {b₀ b₁ b₂ : List ℕ} {a₁ a₂ : ℕ} → Adds (acceptedLine n rounds) b₀ 0 b₁ a₁
+        → Adds (pairLines (n * n) n identifiers (take (n * n) first′) network) b₁ a₁ b₂ a₂
+        → Adds (refinedReport n identifiers stated (accepted network rounds)) b₀ 0 b₂ a₂
+    network-adds identifiers p q = adds-adds p (rw (← arcs-front) q)
+
+-- its report
+pub accepted-reports : {n : ℕ} {identifiers stated : List ℕ} {rounds : ℕ} {network b₀ b₁ : List ℕ} {next : ℕ} → Call n identifiers stated
+    → HandedBack n stated rounds network → Adds (refinedReport n identifiers stated (accepted network rounds)) b₀ 0 b₁ next
+    → Reports (refinedReport n identifiers stated (refine n stated)) b₀ b₁ next
+accepted-reports {n} {identifiers} {stated} {rounds} {network} c w adds =
+    let same = ap (refinedReport n identifiers stated) (w .ending) in
     record {
-      adds = renamed (sym same) (adds-adds p q);
+      adds = renamed (sym same) adds;
       short = rw same
-          (accepted-report-short n identifiers stated network
+          (accepted-report-short n identifiers (prepared n stated) network
           (record { identifiers-small = c .identifiers-small; sets-small = small-sets w }) rounds (c .stated-so .few));
     }

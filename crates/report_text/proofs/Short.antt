@@ -44,10 +44,10 @@ accepted-short regions rounds =
     )
 
 -- identifiers have 32 bits and sets are bytes
-sets-short : (first second stated refined : ℕ) → first < 4294967296 → second < 4294967296 → refined < 256
-    → length (setsLine first second stated refined) ≤ 28
-sets-short first second stated refined f s r =
-    let class : List ℕ = classOf (size stated) (size refined) ∷ [] in
+sets-short : (first second arc refined : ℕ) → first < 4294967296 → second < 4294967296 → refined < 256
+    → length (setsLine first second arc refined) ≤ 28
+sets-short first second arc refined f s r =
+    let class : List ℕ = classOf (size arc) (size refined) ∷ [] in
     omega (
       arith,
       length-more (decimal first) (decimal second) (decimal refined ∷ class ∷ []),
@@ -70,31 +70,31 @@ shown-or-not : (b : Bool) (text : List ℕ) (most : ℕ) → length text ≤ mos
 shown-or-not true text most h = h
 shown-or-not false text most h = zero-le
 
-module _ (n : ℕ) (identifiers stated network : List ℕ) (s : Sized identifiers network) where
-  cell-short : (p : ℕ) → length (cellLine n identifiers stated network p) ≤ 28
+module _ (n : ℕ) (identifiers arcs network : List ℕ) (s : Sized identifiers network) where
+  cell-short : (p : ℕ) → length (cellLine n identifiers arcs network p) ≤ 28
   cell-short p =
       let i : ℕ = row n p in
       let j : ℕ = column n p in
-      shown-or-not (ltb i j) (pairLine n identifiers stated network i j) 28
+      shown-or-not (ltb i j) (pairLine n identifiers arcs network i j) 28
       (sets-short _ _ _ _ (s .identifiers-small i) (s .identifiers-small j) (s .sets-small (i * n + j)))
 
-  pairs-short : (count : ℕ) → length (pairLines count n identifiers stated network) ≤ 28 * count
+  pairs-short : (count : ℕ) → length (pairLines count n identifiers arcs network) ≤ 28 * count
   unfolding pairLines
   pairs-short zero = zero-le
   pairs-short (suc count) =
       omega (
         arith,
-        length-append (pairLines count n identifiers stated network) (cellLine n identifiers stated network count),
+        length-append (pairLines count n identifiers arcs network) (cellLine n identifiers arcs network count),
         pairs-short count,
         cell-short count,
       )
 
   pub accepted-report-short : (rounds : ℕ) → n ≤ 64
-      → length (acceptedLine n rounds ++ pairLines (n * n) n identifiers stated network) ≤ 131072
+      → length (acceptedLine n rounds ++ pairLines (n * n) n identifiers arcs network) ≤ 131072
   accepted-report-short rounds few =
       omega (
         arith,
-        length-append (acceptedLine n rounds) (pairLines (n * n) n identifiers stated network),
+        length-append (acceptedLine n rounds) (pairLines (n * n) n identifiers arcs network),
         accepted-short n rounds,
         pairs-short (n * n),
         mul-le-mul few few,

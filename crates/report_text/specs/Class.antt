@@ -1,4 +1,4 @@
--- The class of a pair, from the sizes of its stated and its refined set.
+-- The class of a pair, from the sizes of its set after the arc rule and of its refined set.
 use Prim.Native.Nat.{ℕ}
 use mathlib.Core.Bool.{cond}
 use lib.Dec.{eqb, ltb}
@@ -20,7 +20,7 @@ asStated = 83
 abbrev pub unknown : ℕ
 unknown = 85
 
--- stated size s, refined size f: O if s = 1; D if f = 1 < s; E if s > f > 1; S if s = f and 1 < f < 8; U if both are 8
+-- size s after the arc rule, refined size f: O if s = 1; D if f = 1 < s; E if s > f > 1; S if s = f and 1 < f < 8; U if both are 8
 unfoldable pub classOf : ℕ → ℕ → ℕ
 classOf s f =
     cond (eqb s 1) observed (cond (eqb f 1) determined (cond (ltb f s) enhanced (cond (ltb f 8) asStated unknown)))

@@ -6,9 +6,9 @@ use lib.ListN.{length}
 use Rattle.matrix.specs.Square.{Square}
 use Rattle.text.specs.Put.{Adds}
 
--- the stated cells of n regions, and a refined cell for each
-pub record Paired (n : ℕ) (stated network : List ℕ) : Type 0 where
-  pub regions : Square n stated
+-- the cells of n regions after the arc rule, and a refined cell for each
+pub record Paired (n : ℕ) (arcs network : List ℕ) : Type 0 where
+  pub regions : Square n arcs
   pub refined : length network ≡ n * n
 
 -- a report stands at the beginning of the buffer where there is room for it, and it is never longer than a buffer

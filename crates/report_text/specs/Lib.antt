@@ -3,4 +3,5 @@ pub mod Rule
 pub mod Words
 pub mod Report
 pub mod Letters
+pub mod Directions
 pub mod Inner

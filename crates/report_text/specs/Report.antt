@@ -10,6 +10,7 @@ use Rattle.matrix.specs.Cells.{cell, row, column}
 use Rattle.lists.specs.Laid.{laid}
 use Rattle.answer.specs.Answer.{Answer}
 use Rattle.answer.specs.Ending.{Ending, accepted, refused}
+use Rattle.refinement.specs.Prepare.{prepared}
 use Rattle.refinement.specs.Refine.{refine}
 use Rattle.filing.specs.Said.{Said, regions}
 use Rattle.filing.specs.Stated.{cellsOf}
@@ -31,32 +32,32 @@ abbrev pub refusalLine : ℕ → ℕ → ℕ → ℕ → List ℕ
 refusalLine number first second third =
     line (refusedWord ∷ decimal number ∷ decimal first ∷ decimal second ∷ decimal third ∷ [])
 
--- the line of a pair: both identifiers, the refined set and the class
+-- the line of a pair: both identifiers, the refined set and the class by what the arc rule left
 abbrev pub setsLine : ℕ → ℕ → ℕ → ℕ → List ℕ
-setsLine first second stated refined =
-    line (decimal first ∷ decimal second ∷ decimal refined ∷ (classOf (size stated) (size refined) ∷ []) ∷ [])
+setsLine first second arc refined =
+    line (decimal first ∷ decimal second ∷ decimal refined ∷ (classOf (size arc) (size refined) ∷ []) ∷ [])
 
--- ---- pairs
+-- ---- pairs, with the matrix after the arc rule and the network
 
 -- the letter of the regions at places i and j
 abbrev pub letter : ℕ → List ℕ → List ℕ → ℕ → ℕ → ℕ
-letter n stated network i j = classOf (size (cell n stated i j)) (size (cell n network i j))
+letter n arcs network i j = classOf (size (cell n arcs i j)) (size (cell n network i j))
 
 -- their line
 abbrev pub pairLine : ℕ → List ℕ → List ℕ → List ℕ → ℕ → ℕ → List ℕ
-pairLine n identifiers stated network i j =
-    setsLine (getD identifiers i 0) (getD identifiers j 0) (cell n stated i j) (cell n network i j)
+pairLine n identifiers arcs network i j =
+    setsLine (getD identifiers i 0) (getD identifiers j 0) (cell n arcs i j) (cell n network i j)
 
 -- the line of the cell at a place, where it is one of a pair i < j
 abbrev pub cellLine : ℕ → List ℕ → List ℕ → List ℕ → ℕ → List ℕ
-cellLine n identifiers stated network p =
-    cond (ltb (row n p) (column n p)) (pairLine n identifiers stated network (row n p) (column n p)) []
+cellLine n identifiers arcs network p =
+    cond (ltb (row n p) (column n p)) (pairLine n identifiers arcs network (row n p) (column n p)) []
 
 -- the lines of the pairs i < j among the first `count` cells in row order
 unfoldable pub pairLines : ℕ → ℕ → List ℕ → List ℕ → List ℕ → List ℕ
-pairLines zero n identifiers stated network = []
-pairLines (suc count) n identifiers stated network =
-    pairLines count n identifiers stated network ++ cellLine n identifiers stated network count
+pairLines zero n identifiers arcs network = []
+pairLines (suc count) n identifiers arcs network =
+    pairLines count n identifiers arcs network ++ cellLine n identifiers arcs network count
 
 -- ---- reports
 
@@ -74,10 +75,10 @@ answerLine identifiers a =
     refusalLine (a .number) (nameOf identifiers (a .number) 1 (a .first)) (nameOf identifiers (a .number) 2 (a .second))
     (nameOf identifiers (a .number) 3 (a .third))
 
--- the report of a refined matrix
+-- the report of a refined matrix; the letters go by the stated sets after the arc rule, which takes both directions together
 abbrev pub refinedReport : ℕ → List ℕ → List ℕ → Ending (List ℕ) → List ℕ
 refinedReport n identifiers stated (accepted network count) =
-    acceptedLine n count ++ pairLines (n * n) n identifiers stated network
+    acceptedLine n count ++ pairLines (n * n) n identifiers (prepared n stated) network
 refinedReport n identifiers stated (refused numbers) = answerLine identifiers numbers
 
 -- the report of a reading; a refused one names an offset

@@ -13,18 +13,20 @@ use scene::Reading;
 use scene::format::MOST_BYTES;
 ghost use mathlib.Core.Path.{_≡_};
 ghost use Rattle.relation.specs.Sets.{size};
+ghost use Rattle.answer.specs.Ending.{accepted};
 ghost use Rattle.matrix.specs.Square.{Square};
 ghost use Rattle.refinement.specs.Refine.{refine};
+ghost use Rattle.text.specs.Put.{Adds};
 ghost use Rattle.report_text.specs.Class.{classOf};
 ghost use Rattle.report_text.specs.Report.{refinedReport, Reported};
 ghost use Rattle.report_text.specs.Inner.{Reports};
 
-// The class of a pair: O where one relation was stated, D where one is left of more, E where fewer are left, S where all
-// that were stated are left, U where nothing is known.
-pub fn class_of(stated: RelationSet, refined: RelationSet) -> u8
-    ensures { λ r. ⌜ r ≡ classOf (size (stated .0)) (size (refined .0)) ⌝ }
+// The class of a pair, by what was stated of it in both directions together: O where that is one relation, D where one is left
+// of more, E where fewer are left, S where all are left, U where nothing is known.
+pub fn class_of(arc: RelationSet, refined: RelationSet) -> u8
+    ensures { λ r. ⌜ r ≡ classOf (size (arc .0)) (size (refined .0)) ⌝ }
 {
-    let before = stated.size();
+    let before = arc.size();
     let after = refined.size();
     if before == 1 {
         return b'O';
@@ -41,6 +43,26 @@ pub fn class_of(stated: RelationSet, refined: RelationSet) -> u8
     b'U'
 }
 
+// The report of an accepted matrix; the arc stage that its letters go by is made by preparing it once more.
+fn put_network(
+    buffer: &mut [u8],
+    n: usize,
+    identifiers: &[u32],
+    stated: &[u8],
+    network: &[u8],
+    rounds: usize,
+) -> usize
+    requires { ⌜ Square n (now stated) × (refine n (now stated) ≡ accepted (now network) rounds) ⌝ }
+    ensures { λ r. ⌜ Adds (refinedReport n (now (identifiers .entry)) (now (stated .entry)) (accepted (now (network .entry)) rounds)) (now (buffer .entry)) 0 (now (buffer .exit)) r ⌝ }
+{
+    let mut first = [0u8; LENT_CELLS];
+    let mut second = [0u8; LENT_CELLS];
+    network::prepare(n, stated, &mut first, &mut second);
+    let arcs = &first[..n * n];
+    let next = put_accepted(buffer, n, rounds);
+    put_pairs(buffer, next, n, identifiers, arcs, network)
+}
+
 // The report of n regions with the cells that were stated of them.
 fn put_refined(buffer: &mut [u8], n: usize, identifiers: &[u32], stated: &[u8]) -> usize
     requires { ⌜ Square n (now stated) ⌝ }
@@ -55,15 +77,8 @@ fn put_refined(buffer: &mut [u8], n: usize, identifiers: &[u32], stated: &[u8]) 
             rounds,
             area: _,
         } => {
-            let next = put_accepted(buffer, n, rounds);
-            put_pairs(
-                buffer,
-                next,
-                n,
-                identifiers,
-                stated,
-                network::network(&first, &second, verdict),
-            )
+            let network = network::network(&first, &second, verdict);
+            put_network(buffer, n, identifiers, stated, network, rounds)
         }
         Verdict::Refused(contradiction, _) => put_contradiction(buffer, identifiers, contradiction),
         Verdict::Unfinished { rounds: _, area: _ } => put_refusal(buffer, 24, 0, 0, 0),

@@ -89,15 +89,15 @@ fn put_pair(
     at: usize,
     first: Identifier,
     second: Identifier,
-    stated: RelationSet,
+    arc: RelationSet,
     refined: RelationSet,
 ) -> usize
-    ensures { λ r. ⌜ Adds (setsLine (first .0) (second .0) (stated .0) (refined .0)) (now (buffer .entry)) at (now (buffer .exit)) r ⌝ }
+    ensures { λ r. ⌜ Adds (setsLine (first .0) (second .0) (arc .0) (refined .0)) (now (buffer .entry)) at (now (buffer .exit)) r ⌝ }
 {
     let next = text::put_decimal(buffer, at, first.0 as usize);
     let next = put_field(buffer, next, second.0 as usize);
     let next = put_field(buffer, next, refined.0 as usize);
-    let end = [b' ', class_of(stated, refined), b'\n'];
+    let end = [b' ', class_of(arc, refined), b'\n'];
     text::put_word(buffer, next, &end)
 }
 
@@ -108,11 +108,11 @@ fn put_cell(
     n: usize,
     p: usize,
     identifiers: &[u32],
-    stated: &[u8],
+    arcs: &[u8],
     network: &[u8],
 ) -> usize
-    requires { ⌜ Paired n (now stated) (now network) × (p < n * n) ⌝ }
-    ensures { λ r. ⌜ Adds (cellLine n (now (identifiers .entry)) (now (stated .entry)) (now (network .entry)) p) (now (buffer .entry)) at (now (buffer .exit)) r ⌝ }
+    requires { ⌜ Paired n (now arcs) (now network) × (p < n * n) ⌝ }
+    ensures { λ r. ⌜ Adds (cellLine n (now (identifiers .entry)) (now (arcs .entry)) (now (network .entry)) p) (now (buffer .entry)) at (now (buffer .exit)) r ⌝ }
 {
     let i = p / n;
     let j = p % n;
@@ -124,30 +124,30 @@ fn put_cell(
             at,
             first,
             second,
-            RelationSet(stated[p]),
+            RelationSet(arcs[p]),
             RelationSet(network[p]),
         );
     }
     at
 }
 
-// The lines of all pairs, in row order.
+// The lines of all pairs, in row order, by the matrix after the arc rule and the network.
 pub(crate) fn put_pairs(
     buffer: &mut [u8],
     at: usize,
     n: usize,
     identifiers: &[u32],
-    stated: &[u8],
+    arcs: &[u8],
     network: &[u8],
 ) -> usize
-    requires { ⌜ Paired n (now stated) (now network) ⌝ }
-    ensures { λ r. ⌜ Adds (pairLines (n * n) n (now (identifiers .entry)) (now (stated .entry)) (now (network .entry))) (now (buffer .entry)) at (now (buffer .exit)) r ⌝ }
+    requires { ⌜ Paired n (now arcs) (now network) ⌝ }
+    ensures { λ r. ⌜ Adds (pairLines (n * n) n (now (identifiers .entry)) (now (arcs .entry)) (now (network .entry))) (now (buffer .entry)) at (now (buffer .exit)) r ⌝ }
 {
     let size = n * n;
     let mut next = at;
     let mut p: usize = 0;
     while p < size {
-        next = put_cell(buffer, next, n, p, identifiers, stated, network);
+        next = put_cell(buffer, next, n, p, identifiers, arcs, network);
         p += 1;
     }
     next

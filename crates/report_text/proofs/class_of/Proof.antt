@@ -16,7 +16,7 @@ size-requires-2 c κs = search needs
 
 -- the class by the sizes that were counted is the class of the sets
 counted : (c : tie.After-size2) {class : ℕ} → class ≡ classOf (c .before .size .result) (c .size2 .result)
-    → class ≡ classOf (size (c .before .before .args .stated .0)) (size (c .before .before .args .refined .0))
+    → class ≡ classOf (size (c .before .before .args .arc .0)) (size (c .before .before .args .refined .0))
 counted c e = rw (← c .before .size .ensures, ← c .size2 .ensures) e
 
 returns : tie.Need-returns

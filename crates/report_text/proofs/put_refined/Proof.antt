@@ -1,7 +1,7 @@
 -- `report_text::put_refined` meets its contract: each verdict's text is the report of the refinement.
 use borrow.Author.Needs.{needs}
 use native.Mathlib.Omega.{arith}
-use Rattle.report_text.proofs.Refinements.{Call, accepted-network, network-paired, accepted-reports, contradiction-reports, never-reports}
+use Rattle.report_text.proofs.Refinements.{Call, accepted-network, accepted-reports, contradiction-reports, never-reports}
 use denote.Ref.{now}
 use Rattle.report_text.proofs.put_refined.Statement.{statement}
 use Rattle.report_text.proofs.put_refined.Tie as tie
@@ -26,9 +26,6 @@ refine-requires c κs = search needs
 enum-known-verdict : tie.Need-enum-known-verdict
 enum-known-verdict c = search needs
 
-put-accepted-requires : tie.Need-put-accepted-requires
-put-accepted-requires c κs = search needs
-
 slice-aggregate-network : tie.Need-slice-aggregate-network
 slice-aggregate-network c = search needs
 
@@ -38,13 +35,13 @@ slice-aggregate-network-2 c = search needs
 network-requires : tie.Need-network-requires
 network-requires c κs = search needs
 
-put-pairs-requires : tie.Need-put-pairs-requires
-put-pairs-requires c κs =
-    let at-verdict = c .before .before .before .before .before .before .before .before .before in
+put-network-requires : tie.Need-put-network-requires
+put-network-requires c κs =
+    let at-network = c .before in
+    let at-verdict = at-network .before .before .before .before in
     let at-refine = at-verdict .before .before .before .before in
-    let at-before = at-refine .before .before in
-    network-paired (call (at-before .before))
-    (accepted-network (call (at-before .before)) (at-refine .refine .ensures) (at-verdict .verdict .given .1) (c .network .ensures))
+    let known = call (at-refine .before .before .before) in
+    (known .stated-so, accepted-network known (at-refine .refine .ensures) (at-verdict .verdict .given .1) (at-network .network .ensures) .ending)
 
 enum-known-verdict-2 : tie.Need-enum-known-verdict-2
 enum-known-verdict-2 c = search needs
@@ -81,15 +78,14 @@ same-length c = search needs
 
 returns : tie.Need-returns
 returns c =
-    let at-put-pairs = c .before .before in
-    let at-network = at-put-pairs .before in
-    let at-put-accepted = at-network .before .before .before .before .before .before in
-    let at-verdict = at-put-accepted .before .before .before in
+    let at-put-network = c .before .before in
+    let at-network = at-put-network .before .before in
+    let at-verdict = at-network .before .before .before .before in
     let at-refine = at-verdict .before .before .before .before in
-    let at-before = at-refine .before .before in
-    accepted-reports (call (at-before .before))
-    (accepted-network (call (at-before .before)) (at-refine .refine .ensures) (at-verdict .verdict .given .1) (at-network .network .ensures))
-    (at-put-accepted .put-accepted .ensures) (at-put-pairs .put-pairs .ensures)
+    let known = call (at-refine .before .before .before) in
+    accepted-reports known
+    (accepted-network known (at-refine .refine .ensures) (at-verdict .verdict .given .1) (at-network .network .ensures))
+    (at-put-network .put-network .ensures)
 
 same-length-2 : tie.Need-same-length-2
 same-length-2 c = search needs
@@ -147,11 +143,10 @@ put-refined-spec =
     slice-aggregate-refine-2
     refine-requires
     enum-known-verdict
-    put-accepted-requires
     slice-aggregate-network
     slice-aggregate-network-2
     network-requires
-    put-pairs-requires
+    put-network-requires
     enum-known-verdict-2
     put-contradiction-requires
     enum-told

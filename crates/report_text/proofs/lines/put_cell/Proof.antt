@@ -36,12 +36,12 @@ returns c =
     let at-first = at-second .before in
     let at-if1 = at-first .before in
     let a = at-if1 .before .before .before .before .before .args in
-    cell-adds (a .n) (now (a .identifiers)) (now (a .stated)) (now (a .network)) (a .p) _ _ (at-if1 .if1 .taken) (at-first .identifier-at .ensures)
+    cell-adds (a .n) (now (a .identifiers)) (now (a .arcs)) (now (a .network)) (a .p) _ _ (at-if1 .if1 .taken) (at-first .identifier-at .ensures)
     (at-second .identifier-at2 .ensures) (at-put-pair .put-pair .ensures)
 
 returns-2 : tie.Need-returns-2
 returns-2 c = let a = c .before .before .before .before .before .args in
-    cell-adds-none (a .n) (now (a .identifiers)) (now (a .stated)) (now (a .network)) (a .p) _ _ (c .if1 .left)
+    cell-adds-none (a .n) (now (a .identifiers)) (now (a .arcs)) (now (a .network)) (a .p) _ _ (c .if1 .left)
 
 pub put-cell-spec : {M : Type 1} → statement M
 put-cell-spec =

@@ -10,17 +10,17 @@ use Rattle.report_text.proofs.lines.put_pairs.Statement.{statement}
 use Rattle.report_text.proofs.lines.put_pairs.Tie as tie
 
 abbrev Inv-loop : tie.InvT-loop
-Inv-loop buffer₀ at n identifiers stated network size next₀ p₀ buffer next p = (size ≡ n * n) × Lines n identifiers stated network buffer₀ at p buffer next
+Inv-loop buffer₀ at n identifiers arcs network size next₀ p₀ buffer next p = (size ≡ n * n) × Lines n identifiers arcs network buffer₀ at p buffer next
 
 abbrev μ-loop : tie.MeasureT-loop
-μ-loop buffer₀ at n identifiers stated network size next₀ p₀ buffer next p = size - p
+μ-loop buffer₀ at n identifiers arcs network size next₀ p₀ buffer next p = size - p
 
 mul-size : tie.Need-mul-size Inv-loop μ-loop
 mul-size c = omega (arith, mul-le-mul (c .before .before .before .before .pre .regions .few) (c .before .before .before .before .pre .regions .few))
 
 loop-holds : tie.Need-loop-holds Inv-loop μ-loop
 loop-holds c = let a = c .before .before .before .before .args in
-    (refl, record { within = omega arith; long = refl; lines = pairs-add-none (a .n) (now (a .identifiers)) (now (a .stated)) (now (a .network)) _ _ })
+    (refl, record { within = omega arith; long = refl; lines = pairs-add-none (a .n) (now (a .identifiers)) (now (a .arcs)) (now (a .network)) _ _ })
 
 put-cell-requires : tie.Need-put-cell-requires Inv-loop μ-loop
 put-cell-requires c κs = search needs
@@ -41,7 +41,7 @@ loop-again c =
       record {
         within = omega arith;
         long = at-put-cell .put-cell .kept .0 ∙ inv .1 .long;
-        lines = pairs-add-cell (a .n) (now (a .identifiers)) (now (a .stated)) (now (a .network)) _ (inv .1 .lines) (at-put-cell .put-cell .ensures);
+        lines = pairs-add-cell (a .n) (now (a .identifiers)) (now (a .arcs)) (now (a .network)) _ (inv .1 .lines) (at-put-cell .put-cell .ensures);
       },
     )
 
