@@ -6,6 +6,10 @@ use Prim.Native.Nat.{ℕ, _+_, _*_, _≤_, _<_}
 use native.Mathlib.Omega.{arith}
 use lib.ListN.{length, getD, take, List·getD-eq-default}
 use lib.Seq.{take-length}
+use contract.Lifetimes.{Lfts}
+use denote.Ref.{now}
+use denote.Triple.Clauses.{AtExit}
+use borrow.Fn.Kinds.{Dens, resT, endedOf}
 use Rattle.lists.specs.BigEndian.{AllBytes}
 use Rattle.lists.proofs.Splits.{split-lt}
 use Rattle.lists.proofs.LaidLaws.{take-laid}
@@ -26,6 +30,8 @@ use Rattle.scene.proofs.Different.{accepted-different, accepted-some}
 use Rattle.scene.proofs.Small.{stated-byte, accepted-small}
 use Rattle.scene.proofs.Answers.{AcceptedLeaves, accepted-leaves}
 use Rattle.scene.proofs.Unique.{answer-tells}
+use Rattle.scene.proofs.read.Kinds as kinds
+use Rattle.scene.proofs.read.Reads.{Post}
 use Rattle.writer.specs.Scene.{sceneOf}
 use Rattle.writer.specs.Writes.{Writes}
 use Rattle.writer.specs.Writable.{Writable}
@@ -165,6 +171,12 @@ reads-rewritable {scene} {n = n} reads full =
     (λ (k : ℕ). let c : List ℕ = grid k (statedCell startingCell (said .statements)) in
     ((p : ℕ) → p < k * k → getD c p 0 ≡ 0 → ⊥) → Writable k (said .identifiers) c)
     (left .counted) (rewritable scene (left .alone)) (full-said left full))
+
+-- and about the generated Post of `read`
+pub read-rewritable : (κs : Lfts 3) (a : Dens κs kinds.ps) (r : resT kinds.r κs .Denot) (s : AtExit (endedOf 3 kinds.ps kinds.r) κs)
+    → Post κs a r s → (n : ℕ) → r ≡ Accepted n → ((p : ℕ) → p < n * n → getD (now (s .1 .1 .0)) p 0 ≡ 0 → ⊥)
+    → Writable n (take n (now (s .1 .0))) (take (n * n) (now (s .1 .1 .0)))
+read-rewritable κs a r s post n accepted = reads-rewritable (rw accepted at post)
 
 -- What was read from an accepted scene, with no empty cell, is written into any buffer as long as that scene, in no more bytes, and
 -- reading that again gives the same. The written scene is a normal form: what may be lost is the order of the statements, that a
