@@ -2,7 +2,7 @@
 use mathlib.Core.Path.{_≡_, sym, _∙_}
 use mathlib.Core.List.{List}
 use Prim.Native.Nat.{ℕ, _+_, _*_, _≤_, _<_}
-use native.Mathlib.Nat.{mul-le-mul, mul-le-mul-left}
+use native.Mathlib.Nat.{le-trans, mul-le-mul, mul-le-mul-left}
 use native.Mathlib.Omega.{arith}
 use borrow.Author.Tests.{eq-eqb, ne-eqb, le-leb, lt-leb}
 use lib.ListN.{length, getD, set}
@@ -24,11 +24,11 @@ few-cells n h = mul-le-mul h h
 pub positive : (n at : ℕ) → at < n * n → 0 < n
 positive n at h = omega (arith, row-lt n at h)
 
--- the place in rows of 64 of the cell at a place in rows of n
-pub source-lt : (n at : ℕ) → n ≤ mostRegions → at < n * n → row n at * mostRegions + column n at < lentCells
-source-lt n at h l = omega (arith, row-lt n at l, column-lt n at l)
+-- a cell's row and column are below 64 both
+pub rows-lt : (n at : ℕ) → n ≤ mostRegions → at < n * n → (row n at < mostRegions) × (column n at < mostRegions)
+rows-lt n at h l = (le-trans (row-lt n at l) h, le-trans (column-lt n at l) h)
 
--- it is that place or a later one
+-- the cell at a place in rows of n comes from that place or a later one
 source-le : (n at : ℕ) → n ≤ mostRegions → at ≤ row n at * mostRegions + column n at
 source-le n at h = omega (arith, place-back n at, mul-le-mul-left (row n at) h)
 
