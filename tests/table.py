@@ -98,7 +98,7 @@ def main():
     wanted = document_rows()
     tables = [
         ("specs/Composition.antt", ("\nrows =\n", "\n\n", r"\(([^()]*)\)"), differences),
-        ("src/table.rt", ("const COMPOSITIONS: [u8; 2048] = [\n", "\n];", r"(?m)^ *(\d+),"), entry_differences),
+        ("src/table.rt", ("const COMPOSITIONS: [u8; 2048] = [\n", "\n];", r"(?m)^ *((?:\d+, *){8})//"), entry_differences),
     ]
     found = []
     for name, marks, compare in tables:
