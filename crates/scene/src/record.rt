@@ -15,7 +15,10 @@ use relation::RelationSet;
 ghost use mathlib.Core.Path.{_≡_};
 ghost use Prim.Native.Nat.{_≤_};
 ghost use lib.ListN.{length, take};
+ghost use Rattle.lists.specs.BigEndian.{numberAt};
+ghost use Rattle.region.specs.Lookup.{identifier};
 ghost use Rattle.filing.specs.Said.{naming};
+ghost use Rattle.filing.specs.Places.{placeOf};
 ghost use Rattle.scene.specs.Record.{judgedRegion, judgedStatement, judgedEnd, recordAt};
 ghost use Rattle.scene.specs.Inner.{Begun, judgedOf};
 
@@ -51,6 +54,13 @@ fn region_at(scene: &[u8], identifiers: &[u32], count: usize, at: usize) -> Reco
     }
 }
 
+// The place that the identifier at an offset names.
+fn place_at(scene: &[u8], identifiers: &[u32], count: usize, at: usize) -> Found
+    ensures { λ r. ⌜ r ≡ placeOf (naming (take count (now (identifiers .entry)))) (identifier (numberAt (now (scene .entry)) at)) ⌝ }
+{
+    place_of(identifiers, count, Identifier(number_at(scene, at)))
+}
+
 // Behind the kind stand identifier A, identifier B and the set; the places that they name are found, A first.
 fn statement_at(scene: &[u8], identifiers: &[u32], count: usize, at: usize) -> Record
     requires { ⌜ Begun (now scene) (now identifiers) count at ⌝ }
@@ -59,10 +69,10 @@ fn statement_at(scene: &[u8], identifiers: &[u32], count: usize, at: usize) -> R
     if scene.len() - at < STATEMENT_BYTES {
         return Record::Refused(Refusal::CutShort, at);
     }
-    let Found::At(from) = place_of(identifiers, count, Identifier(number_at(scene, at + 1))) else {
+    let Found::At(from) = place_at(scene, identifiers, count, at + 1) else {
         return Record::Refused(Refusal::NotDeclared, at);
     };
-    let Found::At(to) = place_of(identifiers, count, Identifier(number_at(scene, at + 5))) else {
+    let Found::At(to) = place_at(scene, identifiers, count, at + 5) else {
         return Record::Refused(Refusal::NotDeclared, at);
     };
     let set = scene[at + 9];

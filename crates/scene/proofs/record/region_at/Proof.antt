@@ -1,20 +1,37 @@
 -- `scene::record::region_at` meets its contract.
-use mathlib.Core.Path.{refl, sym, _∙_}
-use borrow.Author.Tests.{eq-eqb, ne-eqb, lt-ltb, le-ltb, le-leb, lt-leb}
-use Rattle.scene.proofs.Judging.{region-is}
+use mathlib.Core.Path.{_≡_, sym, _∙_}
+use denote.Ref.{now}
+use borrow.Author.Tests.{le-leb, lt-leb}
+use Rattle.scene.proofs.Judging.{LookedUp, region-cut, region-zero, by-found}
 use borrow.Author.Needs.{needs}
 use Rattle.scene.proofs.record.region_at.Statement.{statement}
 use Rattle.scene.proofs.record.region_at.Tie as tie
+
+-- where the call began, seen from behind the test of the length
+abbrev start : tie.Else1 → tie.Start
+start c = c .before .before .before
+
+-- the test of the length, seen from behind that of the identifier
+abbrev whole : tie.Else2 → tie.Else1
+whole c = c .before .before
+
+looked-up : (c : tie.After-place-of) → let a = start (whole (c .before)) .args in
+    LookedUp (now (a .scene)) (now (a .identifiers)) (a .count) (a .at) (c .before .before .number-at .result) (c .place-of .result)
+looked-up c =
+    let named = c .before in
+    record {
+      whole = whole named .if1 .left;
+      name-is = named .before .number-at .ensures;
+      not-zero = named .if2 .left;
+      counted = start (whole named) .pre .counted;
+      found-is = c .place-of .ensures;
+    }
 
 sub-if1 : tie.Need-sub-if1
 sub-if1 c = search needs
 
 returns : tie.Need-returns
-returns c =
-    let begun = c .before .before .before in
-    sym
-    (region-is _ _ _ _ (begun .pre .counted) _ refl _ refl
-    ∙ rw (lt-ltb _ _ (c .if1 .taken)))
+returns c = sym (region-cut _ _ _ (c .if1 .taken))
 
 add-number-at : tie.Need-add-number-at
 add-number-at c = search needs
@@ -23,13 +40,7 @@ number-at-requires : tie.Need-number-at-requires
 number-at-requires c κs = search needs
 
 returns-2 : tie.Need-returns-2
-returns-2 c =
-    let named = c .before in
-    let whole = named .before in
-    let begun = whole .before .before .before in
-    sym
-    (region-is _ _ _ _ (begun .pre .counted) _ (named .number-at .ensures) _ refl
-    ∙ rw (le-ltb _ _ (whole .if1 .left), eq-eqb _ _ (c .if2 .taken)))
+returns-2 c = let read = c .before in sym (region-zero _ _ _ (read .before .if1 .left) (read .number-at .ensures) (c .if2 .taken))
 
 place-of-requires : tie.Need-place-of-requires
 place-of-requires c κs = search needs
@@ -41,39 +52,17 @@ enum-told-2 : tie.Need-enum-told-2
 enum-told-2 c = search needs
 
 returns-3 : tie.Need-returns-3
-returns-3 c =
-    let looked = c .before .before in
-    let good = looked .before in
-    let named = good .before in
-    let whole = named .before in
-    let begun = whole .before .before .before in
-    sym
-    (region-is _ _ _ _ (begun .pre .counted) _ (named .number-at .ensures) _ (looked .place-of .ensures)
-    ∙ rw (le-ltb _ _ (whole .if1 .left), ne-eqb _ _ (good .if2 .left), c .enum-told .given .1))
+returns-3 c = sym (by-found (looked-up (c .before .before)) ∙ rw (c .enum-told .given .1))
 
 returns-4 : tie.Need-returns-4
 returns-4 c =
     let new = c .before in
-    let looked = new .before .before in
-    let good = looked .before in
-    let named = good .before in
-    let whole = named .before in
-    let begun = whole .before .before .before in
-    sym
-    (region-is _ _ _ _ (begun .pre .counted) _ (named .number-at .ensures) _ (looked .place-of .ensures)
-    ∙ rw (le-ltb _ _ (whole .if1 .left), ne-eqb _ _ (good .if2 .left), new .enum-told2 .given .1, le-leb _ _ (c .if3 .taken)))
+    sym (by-found (looked-up (new .before .before)) ∙ rw (new .enum-told2 .given .1, le-leb _ _ (c .if3 .taken)))
 
 returns-5 : tie.Need-returns-5
 returns-5 c =
     let new = c .before in
-    let looked = new .before .before in
-    let good = looked .before in
-    let named = good .before in
-    let whole = named .before in
-    let begun = whole .before .before .before in
-    sym
-    (region-is _ _ _ _ (begun .pre .counted) _ (named .number-at .ensures) _ (looked .place-of .ensures)
-    ∙ rw (le-ltb _ _ (whole .if1 .left), ne-eqb _ _ (good .if2 .left), new .enum-told2 .given .1, lt-leb _ _ (c .if3 .left)))
+    sym (by-found (looked-up (new .before .before)) ∙ rw (new .enum-told2 .given .1, lt-leb _ _ (c .if3 .left)))
 
 pub region-at-spec : {M : Type 1} → statement M
 region-at-spec =

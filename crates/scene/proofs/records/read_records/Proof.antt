@@ -1,10 +1,12 @@
 -- `scene::records::read_records` meets its contract. The loop's invariant is `Going`: the areas hold what the records before `at`
 -- have said. The measure is what is left of the scene.
-use Prim.Native.Nat.{_-_}
+use Prim.Native.Nat.{_+_, _-_, _≤_}
 use mathlib.Core.Path.{sym, _∙_}
 use native.Mathlib.Omega.{arith}
 use borrow.Author.Needs.{needs}
+use denote.Ref.{now}
 use lib.ListN.{length}
+use Rattle.scene.specs.Format.{mostBytes}
 use Rattle.scene.proofs.Going.{Going, going-begins, going-lent, going-count, region-fits, going-region, statement-fits, going-statement}
 use Rattle.scene.proofs.Promised.{ends-reads, refused-reads}
 use Rattle.scene.proofs.records.read_records.Statement.{statement}
@@ -16,9 +18,16 @@ Inv-loop scene identifiers₀ cells₀ at₀ count₀ identifiers cells at count
 abbrev μ-loop : tie.MeasureT-loop
 μ-loop scene identifiers₀ cells₀ at₀ count₀ identifiers cells at count = length scene - at
 
--- where the call began, seen from a turn of the loop
+-- where the call began, seen from behind the beginning of the areas, and from a turn of the loop
+abbrev start : tie.After-begin Inv-loop μ-loop → tie.Start Inv-loop μ-loop
+start c = c .before .before .before .before .before .before
+
 abbrev entry : tie.At-loop Inv-loop μ-loop → tie.Start Inv-loop μ-loop
-entry c = c .before .before .before .before .before .before .before .before .before .before .before
+entry c = start (c .before .before .before .before .before)
+
+-- the turn of the loop, seen from behind its record
+abbrev turn : tie.After-record-at Inv-loop μ-loop → tie.At-loop Inv-loop μ-loop
+turn c = c .before .before
 
 begin-requires : tie.Need-begin-requires Inv-loop μ-loop
 begin-requires c κs = search needs
@@ -26,8 +35,7 @@ begin-requires c κs = search needs
 loop-holds : tie.Need-loop-holds Inv-loop μ-loop
 loop-holds c =
     let begun = c .before .before .before .before in
-    let start = begun .before .before .before .before .before .before in
-    going-begins _ _ _ (start .pre .lent) (begun .begin .ensures)
+    going-begins _ _ _ (start begun .pre .lent) (begun .begin .ensures)
 
 record-at-requires : tie.Need-record-at-requires Inv-loop μ-loop
 record-at-requires c κs =
@@ -41,37 +49,30 @@ put-region-requires c κs = search needs
 
 -- a region
 
+-- what the record says, seen from behind what was done about it
+abbrev declares : tie.After-slice-known5 Inv-loop μ-loop → tie.After-identifier Inv-loop μ-loop
+declares c = c .before .before .before .before .before
+
+region-ends : (c : tie.After-identifier Inv-loop μ-loop) → let g = turn (c .before .before) in
+    let scene = now (entry g .args .scene) in (g .loop .at + 5 ≤ length scene) × (length scene ≤ mostBytes)
+region-ends c =
+    let judged = c .before .before in
+    (region-fits (turn judged .loop .inv) (judged .record-at .ensures) (c .identifier .given .1), entry (turn judged) .pre .scene-short)
+
 add-count : tie.Need-add-count Inv-loop μ-loop
-add-count c =
-    let known = c .before .before .before .before .before in
-    let going = known .before .before .before .before in
-    omega (arith, going-count (going .loop .inv))
+add-count c = omega (arith, going-count (turn (declares c .before .before) .loop .inv))
 
 add-at : tie.Need-add-at Inv-loop μ-loop
-add-at c =
-    let known = c .before .before .before .before .before in
-    let judged = known .before .before in
-    let going = judged .before .before in
-    omega (
-      arith,
-      region-fits (going .loop .inv) (judged .record-at .ensures) (known .identifier .given .1),
-      entry going .pre .scene-short,
-    )
+add-at c = omega (arith, region-ends (declares c))
 
 loop-less : tie.Need-loop-less Inv-loop μ-loop
-loop-less c =
-    let known = c .before .before .before .before .before in
-    let judged = known .before .before in
-    let going = judged .before .before in
-    omega (arith, region-fits (going .loop .inv) (judged .record-at .ensures) (known .identifier .given .1))
+loop-less c = omega (arith, region-ends (declares c))
 
 loop-again : tie.Need-loop-again Inv-loop μ-loop
 loop-again c =
-    let put = c .before .before in
-    let known = put .before .before .before in
-    let judged = known .before .before in
-    let going = judged .before .before in
-    rw (put .put-region .ensures) (going-region (going .loop .inv) (judged .record-at .ensures) (known .identifier .given .1))
+    let judged = declares c .before .before in
+    rw (c .before .before .put-region .ensures)
+    (going-region (turn judged .loop .inv) (judged .record-at .ensures) (declares c .identifier .given .1))
 
 -- a statement
 
@@ -81,31 +82,26 @@ enum-known-from c = search needs
 file-requires : tie.Need-file-requires Inv-loop μ-loop
 file-requires c κs = search needs
 
+abbrev states : tie.After-slice-known6 Inv-loop μ-loop → tie.After-from Inv-loop μ-loop
+states c = c .before .before .before .before .before
+
+statement-ends : (c : tie.After-from Inv-loop μ-loop) → let g = turn (c .before .before) in
+    let scene = now (entry g .args .scene) in (g .loop .at + 10 ≤ length scene) × (length scene ≤ mostBytes)
+statement-ends c =
+    let judged = c .before .before in
+    (statement-fits (turn judged .loop .inv) (judged .record-at .ensures) (c .from .given .1), entry (turn judged) .pre .scene-short)
+
 add-at-2 : tie.Need-add-at-2 Inv-loop μ-loop
-add-at-2 c =
-    let known = c .before .before .before .before .before in
-    let judged = known .before .before in
-    let going = judged .before .before in
-    omega (
-      arith,
-      statement-fits (going .loop .inv) (judged .record-at .ensures) (known .from .given .1),
-      entry going .pre .scene-short,
-    )
+add-at-2 c = omega (arith, statement-ends (states c))
 
 loop-less-2 : tie.Need-loop-less-2 Inv-loop μ-loop
-loop-less-2 c =
-    let known = c .before .before .before .before .before in
-    let judged = known .before .before in
-    let going = judged .before .before in
-    omega (arith, statement-fits (going .loop .inv) (judged .record-at .ensures) (known .from .given .1))
+loop-less-2 c = omega (arith, statement-ends (states c))
 
 loop-again-2 : tie.Need-loop-again-2 Inv-loop μ-loop
 loop-again-2 c =
-    let filed = c .before .before in
-    let known = filed .before .before .before in
-    let judged = known .before .before in
-    let going = judged .before .before in
-    rw (filed .file .ensures) (going-statement (going .loop .inv) (judged .record-at .ensures) (known .from .given .1))
+    let judged = states c .before .before in
+    rw (c .before .before .file .ensures)
+    (going-statement (turn judged .loop .inv) (judged .record-at .ensures) (states c .from .given .1))
 
 -- the end
 
