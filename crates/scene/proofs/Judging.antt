@@ -20,9 +20,9 @@ use Rattle.scene.specs.Record.{declares, states, ends, fails, atPlace, j
 -- ---- a region
 
 module _ (scene : List ℕ) (said : Said) (at : ℕ) where
-  pub region-cut : length scene - at < 5 → judgedRegion scene said at ≡ fails 4 at
+  pub short-region : length scene - at < 5 → judgedRegion scene said at ≡ fails 4 at
   unfolding judgedRegion lengthOf
-  region-cut h = rw (lt-ltb (length scene - at) 5 h)
+  short-region h = rw (lt-ltb (length scene - at) 5 h)
 
   pub region-zero : 5 ≤ length scene - at → {name : ℕ} → name ≡ numberAt scene (at + 1) → name ≡ 0 → judgedRegion scene said at ≡ fails 6 at
   unfolding judgedRegion lengthOf
@@ -53,9 +53,9 @@ by-found {scene} {area} {count} {at} {name} l =
 -- ---- a statement
 
 module _ (scene : List ℕ) (said : Said) (at : ℕ) where
-  pub statement-cut : length scene - at < 10 → judgedStatement scene said at ≡ fails 4 at
+  pub short-statement : length scene - at < 10 → judgedStatement scene said at ≡ fails 4 at
   unfolding judgedStatement lengthOf
-  statement-cut h = rw (lt-ltb (length scene - at) 10 h)
+  short-statement h = rw (lt-ltb (length scene - at) 10 h)
 
   pub first-missing : 10 ≤ length scene - at → {found : Found} → found ≡ placeOf said (identifier (numberAt scene (at + 1)))
       → found ≡ Nothing → judgedStatement scene said at ≡ fails 9 at

@@ -8,24 +8,6 @@ use Rattle.answer.proofs.put_answer.Tie as tie
 returns : tie.Need-returns
 returns c = unfit-answers _ _ (c .if1 .taken)
 
-crossing-requires : tie.Need-crossing-requires
-crossing-requires c κs = search needs
-
-crossing-requires-2 : tie.Need-crossing-requires-2
-crossing-requires-2 c κs = search needs
-
-crossing-requires-3 : tie.Need-crossing-requires-3
-crossing-requires-3 c κs = search needs
-
-crossing-requires-4 : tie.Need-crossing-requires-4
-crossing-requires-4 c κs = search needs
-
-put-five-requires : tie.Need-put-five-requires
-put-five-requires c κs = search needs
-
-same-length : tie.Need-same-length
-same-length c = search needs
-
 returns-2 : tie.Need-returns-2
 returns-2 c =
     let at-crossing4 = c .before .before .before .before in
@@ -40,10 +22,5 @@ put-answer-spec =
     tie.close
     (tie.spec
     returns
-    crossing-requires
-    crossing-requires-2
-    crossing-requires-3
-    crossing-requires-4
-    put-five-requires
-    same-length
-    returns-2)
+    (λ c κs. search needs) (λ c κs. search needs) (λ c κs. search needs) (λ c κs. search needs)
+    (λ c κs. search needs) (λ c. search needs) returns-2)

@@ -16,23 +16,8 @@ abbrev μ-loop : tie.MeasureT-loop
 loop-holds : tie.Need-loop-holds Inv-loop μ-loop
 loop-holds c = filling-begins _ _
 
-mul-identifiers : tie.Need-mul-identifiers Inv-loop μ-loop
-mul-identifiers c = search needs
-
-slice-write-identifiers : tie.Need-slice-write-identifiers Inv-loop μ-loop
-slice-write-identifiers c = search needs
-
-add-place : tie.Need-add-place Inv-loop μ-loop
-add-place c = search needs
-
-loop-less : tie.Need-loop-less Inv-loop μ-loop
-loop-less c = omega (arith, c .before .loop .inv .long)
-
 loop-again : tie.Need-loop-again Inv-loop μ-loop
 loop-again c = same-entry-more _ _ _ _ (c .before .loop .inv) (c .loop-test .taken)
-
-same-length : tie.Need-same-length Inv-loop μ-loop
-same-length c = c .before .loop .inv .long
 
 returns : tie.Need-returns Inv-loop μ-loop
 returns c = same-entry-ends _ _ _ _ (c .before .loop .inv) (c .loop-test .left)
@@ -41,13 +26,6 @@ pub clear-identifiers-spec : {M : Type 1} → statement M
 clear-identifiers-spec =
     tie.close
     (tie.spec
-    Inv-loop
-    μ-loop
-    loop-holds
-    mul-identifiers
-    slice-write-identifiers
-    add-place
-    loop-less
-    loop-again
-    same-length
-    returns)
+    Inv-loop μ-loop loop-holds
+    (λ c. search needs) (λ c. search needs) (λ c. search needs) (λ c. omega (arith, c .before .loop .inv .long)) loop-again
+    (λ c. c .before .loop .inv .long) returns)

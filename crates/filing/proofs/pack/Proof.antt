@@ -10,14 +10,6 @@ returns c = other-cells _ _ (c .if1 .taken)
 returns-2 : tie.Need-returns-2
 returns-2 c = too-many _ _ (c .before .if1 .left) (c .if2 .taken)
 
-pack-rows-requires : tie.Need-pack-rows-requires
-pack-rows-requires c κs = search needs
-
-same-length : tie.Need-same-length
-same-length c = search needs
-
-returns-3 : tie.Need-returns-3
-returns-3 c = search needs
-
 pub pack-spec : {M : Type 1} → statement M
-pack-spec = tie.close (tie.spec returns returns-2 pack-rows-requires same-length returns-3)
+pack-spec =
+    tie.close (tie.spec returns returns-2 (λ c κs. search needs) (λ c. search needs) (λ c. search needs))

@@ -24,15 +24,6 @@ packed-cell-requires c κs =
     let entry = turn .before .before in
     packing-rows _ _ _ _ (entry .pre) (turn .loop .inv)
 
-slice-write-cells : tie.Need-slice-write-cells Inv-loop μ-loop
-slice-write-cells c = search needs
-
-add-at : tie.Need-add-at Inv-loop μ-loop
-add-at c = search needs
-
-loop-less : tie.Need-loop-less Inv-loop μ-loop
-loop-less c = omega arith
-
 loop-again : tie.Need-loop-again Inv-loop μ-loop
 loop-again c =
     let tested = c .before .before in
@@ -53,13 +44,5 @@ pub pack-rows-spec : {M : Type 1} → statement M
 pack-rows-spec =
     tie.close
     (tie.spec
-    Inv-loop
-    μ-loop
-    loop-holds
-    packed-cell-requires
-    slice-write-cells
-    add-at
-    loop-less
-    loop-again
-    same-length
-    returns)
+    Inv-loop μ-loop loop-holds packed-cell-requires
+    (λ c. search needs) (λ c. search needs) (λ c. omega arith) loop-again same-length returns)

@@ -5,11 +5,9 @@ use borrow.Author.Needs.{needs}
 use Rattle.filing.proofs.place_of.Statement.{statement}
 use Rattle.filing.proofs.place_of.Tie as tie
 
-lookup-requires : tie.Need-lookup-requires
-lookup-requires c κs = search needs
-
 returns : tie.Need-returns
 returns c = c .lookup .ensures ∙ place-front _ _ _
 
 pub place-of-spec : {M : Type 1} → statement M
-place-of-spec = tie.close (tie.spec lookup-requires returns)
+place-of-spec =
+    tie.close (tie.spec (λ c κs. search needs) returns)

@@ -8,18 +8,9 @@ use Rattle.filing.proofs.put_region.Tie as tie
 returns : tie.Need-returns
 returns c = sym (set-out _ _ _ (c .if1 .taken))
 
-mul-identifiers : tie.Need-mul-identifiers
-mul-identifiers c = search needs
-
-slice-write-identifiers : tie.Need-slice-write-identifiers
-slice-write-identifiers c = search needs
-
-same-length : tie.Need-same-length
-same-length c = search needs
-
 returns-2 : tie.Need-returns-2
 returns-2 c = search needs
 
 pub put-region-spec : {M : Type 1} → statement M
 put-region-spec =
-    tie.close (tie.spec returns mul-identifiers slice-write-identifiers same-length returns-2)
+    tie.close (tie.spec returns (λ c. search needs) (λ c. search needs) (λ c. search needs) returns-2)

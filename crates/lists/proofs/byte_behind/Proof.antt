@@ -10,14 +10,8 @@ use Rattle.lists.proofs.byte_behind.Tie as tie
 returns : tie.Need-returns
 returns c = byte-past _ _ _ (omega arith)
 
-sub-if2 : tie.Need-sub-if2
-sub-if2 c = search needs
-
 returns-2 : tie.Need-returns-2
 returns-2 c = byte-past _ _ _ (omega arith)
-
-add-result : tie.Need-add-result
-add-result c = search needs
 
 shared-slice-read-result : tie.Need-shared-slice-read-result
 shared-slice-read-result c = search needs
@@ -34,4 +28,7 @@ returns-3 c =
 pub byte-behind-spec : {M : Type 1} → statement M
 byte-behind-spec =
     tie.close
-    (tie.spec returns sub-if2 returns-2 add-result shared-slice-read-result cast-result returns-3)
+    (tie.spec
+    returns
+    (λ c. search needs) returns-2
+    (λ c. search needs) shared-slice-read-result cast-result returns-3)

@@ -11,47 +11,17 @@ use Rattle.lists.proofs.put_number.Tie as tie
 returns : tie.Need-returns
 returns c = sym (put-no-room _ _ _ (omega arith))
 
-sub-if2 : tie.Need-sub-if2
-sub-if2 c = search needs
-
 returns-2 : tie.Need-returns-2
 returns-2 c = sym (put-no-room _ _ _ (omega arith))
-
-cast-area : tie.Need-cast-area
-cast-area c = search needs
-
-slice-write-area : tie.Need-slice-write-area
-slice-write-area c = search needs
-
-cast-area-2 : tie.Need-cast-area-2
-cast-area-2 c = search needs
-
-add-area : tie.Need-add-area
-add-area c = search needs
 
 slice-write-area-2 : tie.Need-slice-write-area-2
 slice-write-area-2 c = simp length-set (omega arith)
 
-cast-area-3 : tie.Need-cast-area-3
-cast-area-3 c = search needs
-
-add-area-2 : tie.Need-add-area-2
-add-area-2 c = search needs
-
 slice-write-area-3 : tie.Need-slice-write-area-3
 slice-write-area-3 c = simp length-set (omega arith)
 
-cast-area-4 : tie.Need-cast-area-4
-cast-area-4 c = search needs
-
-add-area-3 : tie.Need-add-area-3
-add-area-3 c = search needs
-
 slice-write-area-4 : tie.Need-slice-write-area-4
 slice-write-area-4 c = simp length-set (omega arith)
-
-same-length : tie.Need-same-length
-same-length c = search needs
 
 returns-3 : tie.Need-returns-3
 returns-3 c =
@@ -66,18 +36,8 @@ put-number-spec =
     tie.close
     (tie.spec
     returns
-    sub-if2
-    returns-2
-    cast-area
-    slice-write-area
-    cast-area-2
-    add-area
-    slice-write-area-2
-    cast-area-3
-    add-area-2
-    slice-write-area-3
-    cast-area-4
-    add-area-3
-    slice-write-area-4
-    same-length
-    returns-3)
+    (λ c. search needs) returns-2
+    (λ c. search needs) (λ c. search needs) (λ c. search needs) (λ c. search needs) slice-write-area-2
+    (λ c. search needs) (λ c. search needs) slice-write-area-3
+    (λ c. search needs) (λ c. search needs) slice-write-area-4
+    (λ c. search needs) returns-3)

@@ -6,14 +6,8 @@ use Rattle.matrix.proofs.at.Statement.{statement}
 use Rattle.matrix.proofs.at.Tie as tie
 use Rattle.matrix.proofs.cell_place.Reads as cell-place-reads
 
-cell-place-requires : tie.Need-cell-place-requires
-cell-place-requires c κs = search needs
-
 returns : tie.Need-returns
 returns c = nothing-read _ _ _ _ _ (c .before .cell-place .ensures) (c .if1 .taken)
-
-shared-slice-read-t9 : tie.Need-shared-slice-read-t9
-shared-slice-read-t9 c = search needs
 
 returns-2 : tie.Need-returns-2
 returns-2 c =
@@ -21,4 +15,5 @@ returns-2 c =
     cell-read _ _ _ _ _ (d .before .cell-place .ensures) (d .if1 .left) (omega arith)
 
 pub at-spec : {M : Type 1} → statement M
-at-spec = tie.close (tie.spec cell-place-requires returns shared-slice-read-t9 returns-2)
+at-spec =
+    tie.close (tie.spec (λ c κs. search needs) returns (λ c. search needs) returns-2)

@@ -16,20 +16,8 @@ abbrev μ-loop : tie.MeasureT-loop
 loop-holds : tie.Need-loop-holds Inv-loop μ-loop
 loop-holds c = filling-begins _ _
 
-slice-write-cells : tie.Need-slice-write-cells Inv-loop μ-loop
-slice-write-cells c = search needs
-
-add-place : tie.Need-add-place Inv-loop μ-loop
-add-place c = search needs
-
-loop-less : tie.Need-loop-less Inv-loop μ-loop
-loop-less c = omega (arith, c .before .loop .inv .long)
-
 loop-again : tie.Need-loop-again Inv-loop μ-loop
 loop-again c = same-entry-more _ _ _ _ (c .before .loop .inv) (c .loop-test .taken)
-
-same-length : tie.Need-same-length Inv-loop μ-loop
-same-length c = c .before .loop .inv .long
 
 returns : tie.Need-returns Inv-loop μ-loop
 returns c = same-entry-ends _ _ _ _ (c .before .loop .inv) (c .loop-test .left)
@@ -38,12 +26,6 @@ pub fill-spec : {M : Type 1} → statement M
 fill-spec =
     tie.close
     (tie.spec
-    Inv-loop
-    μ-loop
-    loop-holds
-    slice-write-cells
-    add-place
-    loop-less
-    loop-again
-    same-length
-    returns)
+    Inv-loop μ-loop loop-holds
+    (λ c. search needs) (λ c. search needs) (λ c. omega (arith, c .before .loop .inv .long)) loop-again
+    (λ c. c .before .loop .inv .long) returns)

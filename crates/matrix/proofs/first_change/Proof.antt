@@ -26,22 +26,10 @@ returns : tie.Need-returns Inv-loop μ-loop
 unfolding firstChange
 returns c = least-gone _ _ _ (omega arith) (c .before .before .loop .inv .2)
 
-shared-slice-read-if2 : tie.Need-shared-slice-read-if2 Inv-loop μ-loop
-shared-slice-read-if2 c = search needs
-
-shared-slice-read-if2-2 : tie.Need-shared-slice-read-if2-2 Inv-loop μ-loop
-shared-slice-read-if2-2 c = search needs
-
 returns-2 : tie.Need-returns-2 Inv-loop μ-loop
 unfolding firstChange
 returns-2 c =
     least-here _ _ _ (omega arith) (c .before .before .before .before .before .loop .inv .2) (ap not (ne-eqb _ _ (c .if2 .taken)))
-
-add-place : tie.Need-add-place Inv-loop μ-loop
-add-place c = search needs
-
-loop-less : tie.Need-loop-less Inv-loop μ-loop
-loop-less c = search needs
 
 loop-again : tie.Need-loop-again Inv-loop μ-loop
 loop-again c = (
@@ -58,14 +46,6 @@ pub first-change-spec : {M : Type 1} → statement M
 first-change-spec =
     tie.close
     (tie.spec
-    Inv-loop
-    μ-loop
-    loop-holds
-    returns
-    shared-slice-read-if2
-    shared-slice-read-if2-2
-    returns-2
-    add-place
-    loop-less
-    loop-again
-    returns-3)
+    Inv-loop μ-loop loop-holds returns
+    (λ c. search needs) (λ c. search needs) returns-2
+    (λ c. search needs) (λ c. search needs) loop-again returns-3)

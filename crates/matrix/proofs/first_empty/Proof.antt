@@ -21,18 +21,9 @@ abbrev μ-loop : tie.MeasureT-loop
 loop-holds : tie.Need-loop-holds Inv-loop μ-loop
 loop-holds c = (search needs, λ k l. absurd (omega arith))
 
-shared-slice-read-if1 : tie.Need-shared-slice-read-if1 Inv-loop μ-loop
-shared-slice-read-if1 c = search needs
-
 returns : tie.Need-returns Inv-loop μ-loop
 unfolding firstEmpty
 returns c = least-here _ _ _ (omega arith) (c .before .before .before .loop .inv .1) (eq-eqb _ _ (c .if1 .taken))
-
-add-place : tie.Need-add-place Inv-loop μ-loop
-add-place c = search needs
-
-loop-less : tie.Need-loop-less Inv-loop μ-loop
-loop-less c = search needs
 
 loop-again : tie.Need-loop-again Inv-loop μ-loop
 loop-again c = (search needs, below-next _ _ (c .before .before .before .loop .inv .1) (ne-eqb _ _ (c .if1 .left)))
@@ -44,4 +35,7 @@ returns-2 c = least-gone _ _ _ (omega arith) (c .before .loop .inv .1)
 pub first-empty-spec : {M : Type 1} → statement M
 first-empty-spec =
     tie.close
-    (tie.spec Inv-loop μ-loop loop-holds shared-slice-read-if1 returns add-place loop-less loop-again returns-2)
+    (tie.spec
+    Inv-loop μ-loop loop-holds
+    (λ c. search needs) returns
+    (λ c. search needs) (λ c. search needs) loop-again returns-2)

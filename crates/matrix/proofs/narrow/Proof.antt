@@ -7,23 +7,8 @@ use Rattle.matrix.proofs.narrow.Tie as tie
 use Rattle.matrix.proofs.cell_place.Reads as cell-place-reads
 use Rattle.relation.proofs.RelationSet.intersect.Reads as intersect-reads
 
-cell-place-requires : tie.Need-cell-place-requires
-cell-place-requires c κs = search needs
-
 returns : tie.Need-returns
 returns c = nothing-written _ _ _ _ _ (c .before .cell-place .ensures) _ (c .if1 .taken)
-
-slice-read-t11 : tie.Need-slice-read-t11
-slice-read-t11 c = search needs
-
-intersect-requires : tie.Need-intersect-requires
-intersect-requires c κs = search needs
-
-slice-write-cells : tie.Need-slice-write-cells
-slice-write-cells c = search needs
-
-same-length : tie.Need-same-length
-same-length c = search needs
 
 returns-2 : tie.Need-returns-2
 returns-2 c =
@@ -34,10 +19,5 @@ pub narrow-spec : {M : Type 1} → statement M
 narrow-spec =
     tie.close
     (tie.spec
-    cell-place-requires
-    returns
-    slice-read-t11
-    intersect-requires
-    slice-write-cells
-    same-length
-    returns-2)
+    (λ c κs. search needs) returns
+    (λ c. search needs) (λ c κs. search needs) (λ c. search needs) (λ c. search needs) returns-2)

@@ -6,12 +6,6 @@ use denote.Ref.{now}
 use Rattle.region.proofs.identifier_at.Statement.{statement}
 use Rattle.region.proofs.identifier_at.Tie as tie
 
-mul-t6 : tie.Need-mul-t6
-mul-t6 c = search needs
-
-shared-slice-read-t8 : tie.Need-shared-slice-read-t8
-shared-slice-read-t8 c = search needs
-
 returns : tie.Need-returns
 returns c = search needs
 
@@ -19,4 +13,5 @@ returns-2 : tie.Need-returns-2
 returns-2 c = sym (List·getD-eq-default (now (c .before .args .identifiers)) 0 (c .if1 .left))
 
 pub identifier-at-spec : {M : Type 1} → statement M
-identifier-at-spec = tie.close (tie.spec mul-t6 shared-slice-read-t8 returns returns-2)
+identifier-at-spec =
+    tie.close (tie.spec (λ c. search needs) (λ c. search needs) returns returns-2)

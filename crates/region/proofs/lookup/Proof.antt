@@ -24,20 +24,8 @@ loop-holds c = (omega arith, omega arith, λ k l. absurd (omega arith))
 returns : tie.Need-returns Inv-loop μ-loop
 returns c = finds-nothing _ _ _ _ (omega arith) (c .before .before .loop .inv .2)
 
-mul-if2 : tie.Need-mul-if2 Inv-loop μ-loop
-mul-if2 c = omega arith
-
-shared-slice-read-if2 : tie.Need-shared-slice-read-if2 Inv-loop μ-loop
-shared-slice-read-if2 c = omega arith
-
 returns-2 : tie.Need-returns-2 Inv-loop μ-loop
 returns-2 c = finds-here _ _ _ _ (omega arith) (omega arith) (c .before .before .before .before .loop .inv .2) (c .if2 .taken)
-
-add-at : tie.Need-add-at Inv-loop μ-loop
-add-at c = omega arith
-
-loop-less : tie.Need-loop-less Inv-loop μ-loop
-loop-less c = omega arith
 
 loop-again : tie.Need-loop-again Inv-loop μ-loop
 loop-again c =
@@ -50,14 +38,6 @@ pub lookup-spec : {M : Type 1} → statement M
 lookup-spec =
     tie.close
     (tie.spec
-    Inv-loop
-    μ-loop
-    loop-holds
-    returns
-    mul-if2
-    shared-slice-read-if2
-    returns-2
-    add-at
-    loop-less
-    loop-again
-    returns-3)
+    Inv-loop μ-loop loop-holds returns
+    (λ c. omega arith) (λ c. omega arith) returns-2
+    (λ c. omega arith) (λ c. omega arith) loop-again returns-3)

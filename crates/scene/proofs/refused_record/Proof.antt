@@ -5,27 +5,6 @@ use borrow.Author.Needs.{needs}
 use Rattle.scene.proofs.refused_record.Statement.{statement}
 use Rattle.scene.proofs.refused_record.Tie as tie
 
-slice-aggregate-read : tie.Need-slice-aggregate-read
-slice-aggregate-read c = search needs
-
-slice-aggregate-read-2 : tie.Need-slice-aggregate-read-2
-slice-aggregate-read-2 c = search needs
-
-read-requires : tie.Need-read-requires
-read-requires c κs = search needs
-
-span-of-requires : tie.Need-span-of-requires
-span-of-requires c κs = search needs
-
-sub-result : tie.Need-sub-result
-sub-result c = search needs
-
-part-result-start : tie.Need-part-result-start
-part-result-start c = search needs
-
-part-result-end : tie.Need-part-result-end
-part-result-end c = search needs
-
 returns : tie.Need-returns
 returns c =
     let spanned = c .before in
@@ -37,11 +16,5 @@ pub refused-record-spec : {M : Type 1} → statement M
 refused-record-spec =
     tie.close
     (tie.spec
-    slice-aggregate-read
-    slice-aggregate-read-2
-    read-requires
-    span-of-requires
-    sub-result
-    part-result-start
-    part-result-end
-    returns)
+    (λ c. search needs) (λ c. search needs) (λ c κs. search needs) (λ c κs. search needs) (λ c. search needs)
+    (λ c. search needs) (λ c. search needs) returns)

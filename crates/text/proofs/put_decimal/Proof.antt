@@ -16,47 +16,20 @@ abbrev μ-loop : tie.MeasureT-loop
 loop-holds : tie.Need-loop-holds Inv-loop μ-loop
 loop-holds c = found-none _ (omega arith)
 
-cast-digits : tie.Need-cast-digits Inv-loop μ-loop
-cast-digits c = omega arith
-
-add-digits : tie.Need-add-digits Inv-loop μ-loop
-add-digits c = omega arith
-
 array-write-digits : tie.Need-array-write-digits Inv-loop μ-loop
 array-write-digits c = c .before .loop .inv .place
 
 sub-first : tie.Need-sub-first Inv-loop μ-loop
 sub-first c = found-room _ (c .before .loop .inv) (c .loop-test .taken)
 
-loop-less : tie.Need-loop-less Inv-loop μ-loop
-loop-less c = omega arith
-
 loop-again : tie.Need-loop-again Inv-loop μ-loop
 loop-again c = found-more _ (c .before .loop .inv) (c .loop-test .taken)
-
-cast-digits-2 : tie.Need-cast-digits-2 Inv-loop μ-loop
-cast-digits-2 c = omega arith
-
-add-digits-2 : tie.Need-add-digits-2 Inv-loop μ-loop
-add-digits-2 c = omega arith
 
 array-write-digits-2 : tie.Need-array-write-digits-2 Inv-loop μ-loop
 array-write-digits-2 c = c .before .loop .inv .place
 
-sub-put-word : tie.Need-sub-put-word Inv-loop μ-loop
-sub-put-word c = omega arith
-
-part-put-word-start : tie.Need-part-put-word-start Inv-loop μ-loop
-part-put-word-start c = search needs
-
 part-put-word-end : tie.Need-part-put-word-end Inv-loop μ-loop
 part-put-word-end c = simp length-set (omega (arith, c .before .before .before .loop .inv .long))
-
-put-word-requires : tie.Need-put-word-requires Inv-loop μ-loop
-put-word-requires c κs = search needs
-
-same-length : tie.Need-same-length Inv-loop μ-loop
-same-length c = search needs
 
 returns : tie.Need-returns Inv-loop μ-loop
 returns c = rw (found-all (c .before .before .before .before .before .before .before .loop .inv) (omega arith)) (c .before .before .put-word .ensures)
@@ -65,21 +38,9 @@ pub put-decimal-spec : {M : Type 1} → statement M
 put-decimal-spec =
     tie.close
     (tie.spec
-    Inv-loop
-    μ-loop
-    loop-holds
-    cast-digits
-    add-digits
-    array-write-digits
-    sub-first
-    loop-less
-    loop-again
-    cast-digits-2
-    add-digits-2
-    array-write-digits-2
-    sub-put-word
-    part-put-word-start
-    part-put-word-end
-    put-word-requires
-    same-length
-    returns)
+    Inv-loop μ-loop loop-holds
+    (λ c. omega arith) (λ c. omega arith) array-write-digits sub-first
+    (λ c. omega arith) loop-again
+    (λ c. omega arith) (λ c. omega arith) array-write-digits-2
+    (λ c. omega arith) (λ c. search needs) part-put-word-end
+    (λ c κs. search needs) (λ c. search needs) returns)

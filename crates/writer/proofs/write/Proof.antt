@@ -12,7 +12,8 @@ use Rattle.matrix.proofs.CellLaws.{range-holds}
 use Rattle.writer.specs.Scene.{sceneOf}
 use Rattle.writer.specs.Writing.{firstBad}
 use Rattle.writer.specs.Writable.{Sized, Writable}
-use Rattle.writer.proofs.WriteLaws.{square-small, bad-found, empty-found, length-found, out-of-range, other-regions, other-cells, zero-refused, twice-refused, empty-refused, long-refused, no-room, is-written, is-refused, succeeds}
+use Rattle.writer.proofs.WriteLaws.{square-small, bad-found, empty-found, length-found, is-written, is-refused, succeeds}
+use Rattle.writer.proofs.WriteLaws.{out-of-range, other-regions, other-cells, zero-refused, twice-refused, empty-refused, long-refused, no-room}
 use Rattle.writer.proofs.write.Statement.{statement}
 use Rattle.writer.proofs.write.Tie as tie
 
@@ -68,9 +69,6 @@ writable c =
       short = omega (arith, c .if7 .left, length-at (c .before));
     }
 
-in-range-requires : tie.Need-in-range-requires
-in-range-requires c κs = search needs
-
 returns : tie.Need-returns
 returns c =
     let called = c .before in
@@ -92,12 +90,6 @@ returns-3 c =
     is-refused (a .n) _ _ _ _ _
     (other-cells (a .n) (a .identifiers .now) (a .cells .now) _ (range (c .before .before)) (c .before .if2 .left) (c .if3 .taken)) refl
 
-first-bad-requires : tie.Need-first-bad-requires
-first-bad-requires c κs = search needs
-
-identifier-at-requires : tie.Need-identifier-at-requires
-identifier-at-requires c κs = search needs
-
 returns-4 : tie.Need-returns-4
 returns-4 c =
     let named = c .before .before in
@@ -113,12 +105,6 @@ returns-5 c =
     is-refused (start (ranged (bad .before)) .args .n) _ _ _ _ _
     (twice-refused _ _ _ _ (sized (bad .before)) _ (bad-at bad) (named .before .if4 .taken)
     (λ z. c .if5 .left (named .identifier-at .ensures ∙ z))) refl
-
-first-empty-requires : tie.Need-first-empty-requires
-first-empty-requires c κs = search needs
-
-mul-if6 : tie.Need-mul-if6
-mul-if6 c = search needs
 
 div-t16 : tie.Need-div-t16
 div-t16 c = sized (c .before .before .before .before) .square .some
@@ -159,9 +145,6 @@ put-scene-requires c κs =
     let short = c .before .before in
     record { sized = sized (sized-at (full-at short)); fits = omega (arith, c .before .if8 .left, length-at (short .before)) }
 
-same-length : tie.Need-same-length
-same-length c = search needs
-
 returns-9 : tie.Need-returns-9
 returns-9 c =
     let put = c .before .before in
@@ -175,23 +158,8 @@ pub write-spec : {M : Type 1} → statement M
 write-spec =
     tie.close
     (tie.spec
-    in-range-requires
-    returns
-    returns-2
-    mul-if3
-    returns-3
-    first-bad-requires
-    identifier-at-requires
-    returns-4
-    returns-5
-    first-empty-requires
-    mul-if6
-    div-t16
-    rem-t18
-    returns-6
-    scene-length-requires
-    returns-7
-    returns-8
+    (λ c κs. search needs) returns returns-2 mul-if3 returns-3
+    (λ c κs. search needs) (λ c κs. search needs) returns-4 returns-5
+    (λ c κs. search needs) (λ c. search needs) div-t16 rem-t18 returns-6 scene-length-requires returns-7 returns-8
     put-scene-requires
-    same-length
-    returns-9)
+    (λ c. search needs) returns-9)

@@ -9,12 +9,6 @@ use Rattle.relation.proofs.CompositionLaws.{compose-listed}
 use Rattle.relation.proofs.RelationSet.compose.Statement.{statement}
 use Rattle.relation.proofs.RelationSet.compose.Tie as tie
 
-compositions-requires : tie.Need-compositions-requires
-compositions-requires c κs = search needs
-
-compose-by-requires : tie.Need-compose-by-requires
-compose-by-requires c κs = search needs
-
 returns : tie.Need-returns
 returns c =
     let args = c .before .before .before .args in
@@ -23,4 +17,5 @@ returns c =
     ∙ compose-listed (args .self .0) (args .other .0) (omega arith)
 
 pub compose-spec : {M : Type 1} → statement M
-compose-spec = tie.close (tie.spec compositions-requires compose-by-requires returns)
+compose-spec =
+    tie.close (tie.spec (λ c κs. search needs) (λ c κs. search needs) returns)

@@ -21,29 +21,8 @@ Inv-loop entries other from union₀ q₀ union q = (q ≤ 8) × (union ≡ upto
 abbrev μ-loop : tie.MeasureT-loop
 μ-loop entries other from union₀ q₀ union q = 8 - q
 
-cast-from : tie.Need-cast-from Inv-loop μ-loop
-cast-from c = search needs
-
-mul-from : tie.Need-mul-from Inv-loop μ-loop
-mul-from c = search needs
-
 loop-holds : tie.Need-loop-holds Inv-loop μ-loop
 loop-holds c = (search needs, upto-none (c .before .args .other .0) (row (c .before .args .entries .now) (8 * c .before .args .self .0)))
-
-has-requires : tie.Need-has-requires Inv-loop μ-loop
-has-requires c κs = search needs
-
-add-union : tie.Need-add-union Inv-loop μ-loop
-add-union c = search needs
-
-element-copy-out-union : tie.Need-element-copy-out-union Inv-loop μ-loop
-element-copy-out-union c = search needs
-
-add-q : tie.Need-add-q Inv-loop μ-loop
-add-q c = search needs
-
-loop-less : tie.Need-loop-less Inv-loop μ-loop
-loop-less c = search needs
 
 loop-again : tie.Need-loop-again Inv-loop μ-loop
 loop-again c =
@@ -68,15 +47,7 @@ pub compose-by-spec : {M : Type 1} → statement M
 compose-by-spec =
     tie.close
     (tie.spec
-    Inv-loop
-    μ-loop
-    cast-from
-    mul-from
-    loop-holds
-    has-requires
-    add-union
-    element-copy-out-union
-    add-q
-    loop-less
-    loop-again
-    returns)
+    Inv-loop μ-loop
+    (λ c. search needs) (λ c. search needs) loop-holds
+    (λ c κs. search needs) (λ c. search needs) (λ c. search needs) (λ c. search needs) (λ c. search needs)
+    loop-again returns)

@@ -20,24 +20,6 @@ tested : T (all 256 right)
 unfolding all right converse over unionOf has flip
 tested = tt
 
-mul-up : tie.Need-mul-up
-mul-up c = search needs
-
-mul-down : tie.Need-mul-down
-mul-down c = search needs
-
-mul-t6 : tie.Need-mul-t6
-mul-t6 c = search needs
-
-add-t7 : tie.Need-add-t7
-add-t7 c = search needs
-
-add-t8 : tie.Need-add-t8
-add-t8 c = search needs
-
-add-t10 : tie.Need-add-t10
-add-t10 c = search needs
-
 returns : tie.Need-returns
 unfolding right
 returns c =
@@ -45,4 +27,8 @@ returns c =
     (all-at 256 right tested (c .args .self .0) (search needs))
 
 pub converse-spec : {M : Type 1} → statement M
-converse-spec = tie.close (tie.spec mul-up mul-down mul-t6 add-t7 add-t8 add-t10 returns)
+converse-spec =
+    tie.close
+    (tie.spec
+    (λ c. search needs) (λ c. search needs) (λ c. search needs) (λ c. search needs) (λ c. search needs)
+    (λ c. search needs) returns)

@@ -6,12 +6,6 @@ use Rattle.relation.proofs.Member.{none-beyond}
 use Rattle.relation.proofs.RelationSet.has.Statement.{statement}
 use Rattle.relation.proofs.RelationSet.has.Tie as tie
 
-cast-result : tie.Need-cast-result
-cast-result c = search needs
-
-shr-result : tie.Need-shr-result
-shr-result c = search needs
-
 returns : tie.Need-returns
 unfolding has
 returns c = search needs
@@ -20,4 +14,5 @@ returns-2 : tie.Need-returns-2
 returns-2 c = sym (none-beyond (c .before .args .self .0) (c .before .args .relation) (search needs) (c .if1 .left))
 
 pub has-spec : {M : Type 1} → statement M
-has-spec = tie.close (tie.spec cast-result shr-result returns returns-2)
+has-spec =
+    tie.close (tie.spec (λ c. search needs) (λ c. search needs) returns returns-2)

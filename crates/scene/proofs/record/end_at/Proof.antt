@@ -9,12 +9,6 @@ use Rattle.scene.proofs.record.end_at.Tie as tie
 returns : tie.Need-returns
 returns c = sym (end-is _ _ _ _ (c .before .pre .counted) ∙ rw (eq-eqb _ _ (c .if1 .taken)))
 
-add-if2 : tie.Need-add-if2
-add-if2 c = search needs
-
-add-t10 : tie.Need-add-t10
-add-t10 c = search needs
-
 returns-2 : tie.Need-returns-2
 returns-2 c =
     let some = c .before in
@@ -28,4 +22,5 @@ returns-3 c =
     sym (end-is _ _ _ _ (begun .pre .counted) ∙ rw (ne-eqb _ _ (some .if1 .left), le-ltb _ _ (c .if2 .left)))
 
 pub end-at-spec : {M : Type 1} → statement M
-end-at-spec = tie.close (tie.spec returns add-if2 add-t10 returns-2 returns-3)
+end-at-spec =
+    tie.close (tie.spec returns (λ c. search needs) (λ c. search needs) returns-2 returns-3)

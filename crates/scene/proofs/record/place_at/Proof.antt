@@ -7,4 +7,5 @@ returns : tie.Need-returns
 returns c = rw (c .before .number-at .ensures) at (c .place-of .ensures)
 
 pub place-at-spec : {M : Type 1} → statement M
-place-at-spec = tie.close (tie.spec (λ c κs. search needs) (λ c κs. search needs) returns)
+place-at-spec =
+    tie.close (tie.spec (λ c κs. search needs) (λ c κs. search needs) returns)

@@ -9,21 +9,12 @@ returns : tie.Need-returns
 unfolding recordAt
 returns c = rw (le-leb _ _ (c .if1 .taken))
 
-shared-slice-read-kind : tie.Need-shared-slice-read-kind
-shared-slice-read-kind c = search needs
-
-region-at-requires : tie.Need-region-at-requires
-region-at-requires c κs = search needs
-
 returns-2 : tie.Need-returns-2
 unfolding recordAt
 returns-2 c =
     let kind = c .before in
     let begun = kind .before .before in
     rw (lt-leb _ _ (begun .if1 .left), eq-eqb _ _ (kind .if2 .taken)) (c .region-at .ensures)
-
-statement-at-requires : tie.Need-statement-at-requires
-statement-at-requires c κs = search needs
 
 returns-3 : tie.Need-returns-3
 unfolding recordAt
@@ -32,9 +23,6 @@ returns-3 c =
     let no-region = kind .before in
     let begun = no-region .before .before in
     rw (lt-leb _ _ (begun .if1 .left), ne-eqb _ _ (no-region .if2 .left), eq-eqb _ _ (kind .if3 .taken)) (c .statement-at .ensures)
-
-end-at-requires : tie.Need-end-at-requires
-end-at-requires c κs = search needs
 
 returns-4 : tie.Need-returns-4
 unfolding recordAt
@@ -59,11 +47,6 @@ record-at-spec =
     tie.close
     (tie.spec
     returns
-    shared-slice-read-kind
-    region-at-requires
-    returns-2
-    statement-at-requires
-    returns-3
-    end-at-requires
-    returns-4
-    returns-5)
+    (λ c. search needs) (λ c κs. search needs) returns-2
+    (λ c κs. search needs) returns-3
+    (λ c κs. search needs) returns-4 returns-5)

@@ -2,7 +2,7 @@
 use mathlib.Core.Path.{_≡_, sym, _∙_}
 use denote.Ref.{now}
 use borrow.Author.Tests.{le-leb, lt-leb}
-use Rattle.scene.proofs.Judging.{LookedUp, region-cut, region-zero, by-found}
+use Rattle.scene.proofs.Judging.{LookedUp, short-region, region-zero, by-found}
 use borrow.Author.Needs.{needs}
 use Rattle.scene.proofs.record.region_at.Statement.{statement}
 use Rattle.scene.proofs.record.region_at.Tie as tie
@@ -27,29 +27,11 @@ looked-up c =
       found-is = c .place-of .ensures;
     }
 
-sub-if1 : tie.Need-sub-if1
-sub-if1 c = search needs
-
 returns : tie.Need-returns
-returns c = sym (region-cut _ _ _ (c .if1 .taken))
-
-add-number-at : tie.Need-add-number-at
-add-number-at c = search needs
-
-number-at-requires : tie.Need-number-at-requires
-number-at-requires c κs = search needs
+returns c = sym (short-region _ _ _ (c .if1 .taken))
 
 returns-2 : tie.Need-returns-2
 returns-2 c = let read = c .before in sym (region-zero _ _ _ (read .before .if1 .left) (read .number-at .ensures) (c .if2 .taken))
-
-place-of-requires : tie.Need-place-of-requires
-place-of-requires c κs = search needs
-
-enum-told : tie.Need-enum-told
-enum-told c = search needs
-
-enum-told-2 : tie.Need-enum-told-2
-enum-told-2 c = search needs
 
 returns-3 : tie.Need-returns-3
 returns-3 c = sym (by-found (looked-up (c .before .before)) ∙ rw (c .enum-told .given .1))
@@ -68,14 +50,6 @@ pub region-at-spec : {M : Type 1} → statement M
 region-at-spec =
     tie.close
     (tie.spec
-    sub-if1
-    returns
-    add-number-at
-    number-at-requires
-    returns-2
-    place-of-requires
-    enum-told
-    enum-told-2
-    returns-3
-    returns-4
-    returns-5)
+    (λ c. search needs) returns
+    (λ c. search needs) (λ c κs. search needs) returns-2
+    (λ c κs. search needs) (λ c. search needs) (λ c. search needs) returns-3 returns-4 returns-5)

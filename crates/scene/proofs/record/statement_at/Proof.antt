@@ -3,7 +3,7 @@ use mathlib.Core.Path.{_≡_, sym, _∙_}
 use denote.Ref.{now}
 use lib.ListN.{take}
 use Rattle.filing.specs.Said.{naming}
-use Rattle.scene.proofs.Judging.{FirstFound, statement-cut, first-missing, second-missing, set-empty, set-stated}
+use Rattle.scene.proofs.Judging.{FirstFound, short-statement, first-missing, second-missing, set-empty, set-stated}
 use borrow.Author.Needs.{needs}
 use Rattle.scene.proofs.record.statement_at.Statement.{statement}
 use Rattle.scene.proofs.record.statement_at.Tie as tie
@@ -30,49 +30,16 @@ first-found c =
       second-is = c .place-at2 .ensures;
     }
 
-sub-if1 : tie.Need-sub-if1
-sub-if1 c = search needs
-
 returns : tie.Need-returns
-returns c = sym (statement-cut _ _ _ (c .if1 .taken))
-
-add-place-at : tie.Need-add-place-at
-add-place-at c = search needs
-
-place-at-requires : tie.Need-place-at-requires
-place-at-requires c κs = search needs
-
-enum-known-from : tie.Need-enum-known-from
-enum-known-from c = search needs
-
-enum-told : tie.Need-enum-told
-enum-told c = search needs
+returns c = sym (short-statement _ _ _ (c .if1 .taken))
 
 returns-2 : tie.Need-returns-2
 returns-2 c =
     let looked = c .before .before in
     sym (first-missing _ _ _ (looked .before .if1 .left) (looked .place-at .ensures) (c .enum-told .given .1))
 
-add-place-at-2 : tie.Need-add-place-at-2
-add-place-at-2 c = search needs
-
-place-at-requires-2 : tie.Need-place-at-requires-2
-place-at-requires-2 c κs = search needs
-
-enum-known-to : tie.Need-enum-known-to
-enum-known-to c = search needs
-
-enum-told-2 : tie.Need-enum-told-2
-enum-told-2 c = search needs
-
 returns-3 : tie.Need-returns-3
 returns-3 c = sym (second-missing (first-found (c .before .before)) (c .enum-told2 .given .1))
-
-add-set : tie.Need-add-set
-add-set c = search needs
-
-shared-slice-read-set : tie.Need-shared-slice-read-set
-shared-slice-read-set c = search needs
 
 returns-4 : tie.Need-returns-4
 returns-4 c =
@@ -88,19 +55,7 @@ pub statement-at-spec : {M : Type 1} → statement M
 statement-at-spec =
     tie.close
     (tie.spec
-    sub-if1
-    returns
-    add-place-at
-    place-at-requires
-    enum-known-from
-    enum-told
-    returns-2
-    add-place-at-2
-    place-at-requires-2
-    enum-known-to
-    enum-told-2
-    returns-3
-    add-set
-    shared-slice-read-set
-    returns-4
-    returns-5)
+    (λ c. search needs) returns
+    (λ c. search needs) (λ c κs. search needs) (λ c. search needs) (λ c. search needs) returns-2
+    (λ c. search needs) (λ c κs. search needs) (λ c. search needs) (λ c. search needs) returns-3
+    (λ c. search needs) (λ c. search needs) returns-4 returns-5)

@@ -29,9 +29,6 @@ entry c = start (c .before .before .before .before .before)
 abbrev turn : tie.After-record-at Inv-loop μ-loop → tie.At-loop Inv-loop μ-loop
 turn c = c .before .before
 
-begin-requires : tie.Need-begin-requires Inv-loop μ-loop
-begin-requires c κs = search needs
-
 loop-holds : tie.Need-loop-holds Inv-loop μ-loop
 loop-holds c =
     let begun = c .before .before .before .before in
@@ -41,17 +38,11 @@ record-at-requires : tie.Need-record-at-requires Inv-loop μ-loop
 record-at-requires c κs =
     let w = c .before .loop .inv in omega (arith, going-count w, going-lent w .identifiers-long)
 
-enum-known-identifier : tie.Need-enum-known-identifier Inv-loop μ-loop
-enum-known-identifier c = search needs
-
-put-region-requires : tie.Need-put-region-requires Inv-loop μ-loop
-put-region-requires c κs = search needs
-
 -- a region
 
 -- what the record says, seen from behind what was done about it
-abbrev declares : tie.After-slice-known5 Inv-loop μ-loop → tie.After-identifier Inv-loop μ-loop
-declares c = c .before .before .before .before .before
+abbrev known-region : tie.After-slice-known5 Inv-loop μ-loop → tie.After-identifier Inv-loop μ-loop
+known-region c = c .before .before .before .before .before
 
 region-ends : (c : tie.After-identifier Inv-loop μ-loop) → let g = turn (c .before .before) in
     let scene = now (entry g .args .scene) in (g .loop .at + 5 ≤ length scene) × (length scene ≤ mostBytes)
@@ -60,30 +51,24 @@ region-ends c =
     (region-fits (turn judged .loop .inv) (judged .record-at .ensures) (c .identifier .given .1), entry (turn judged) .pre .scene-short)
 
 add-count : tie.Need-add-count Inv-loop μ-loop
-add-count c = omega (arith, going-count (turn (declares c .before .before) .loop .inv))
+add-count c = omega (arith, going-count (turn (known-region c .before .before) .loop .inv))
 
 add-at : tie.Need-add-at Inv-loop μ-loop
-add-at c = omega (arith, region-ends (declares c))
+add-at c = omega (arith, region-ends (known-region c))
 
 loop-less : tie.Need-loop-less Inv-loop μ-loop
-loop-less c = omega (arith, region-ends (declares c))
+loop-less c = omega (arith, region-ends (known-region c))
 
 loop-again : tie.Need-loop-again Inv-loop μ-loop
 loop-again c =
-    let judged = declares c .before .before in
+    let judged = known-region c .before .before in
     rw (c .before .before .put-region .ensures)
-    (going-region (turn judged .loop .inv) (judged .record-at .ensures) (declares c .identifier .given .1))
+    (going-region (turn judged .loop .inv) (judged .record-at .ensures) (known-region c .identifier .given .1))
 
 -- a statement
 
-enum-known-from : tie.Need-enum-known-from Inv-loop μ-loop
-enum-known-from c = search needs
-
-file-requires : tie.Need-file-requires Inv-loop μ-loop
-file-requires c κs = search needs
-
-abbrev states : tie.After-slice-known6 Inv-loop μ-loop → tie.After-from Inv-loop μ-loop
-states c = c .before .before .before .before .before
+abbrev known-statement : tie.After-slice-known6 Inv-loop μ-loop → tie.After-from Inv-loop μ-loop
+known-statement c = c .before .before .before .before .before
 
 statement-ends : (c : tie.After-from Inv-loop μ-loop) → let g = turn (c .before .before) in
     let scene = now (entry g .args .scene) in (g .loop .at + 10 ≤ length scene) × (length scene ≤ mostBytes)
@@ -92,24 +77,18 @@ statement-ends c =
     (statement-fits (turn judged .loop .inv) (judged .record-at .ensures) (c .from .given .1), entry (turn judged) .pre .scene-short)
 
 add-at-2 : tie.Need-add-at-2 Inv-loop μ-loop
-add-at-2 c = omega (arith, statement-ends (states c))
+add-at-2 c = omega (arith, statement-ends (known-statement c))
 
 loop-less-2 : tie.Need-loop-less-2 Inv-loop μ-loop
-loop-less-2 c = omega (arith, statement-ends (states c))
+loop-less-2 c = omega (arith, statement-ends (known-statement c))
 
 loop-again-2 : tie.Need-loop-again-2 Inv-loop μ-loop
 loop-again-2 c =
-    let judged = states c .before .before in
+    let judged = known-statement c .before .before in
     rw (c .before .before .file .ensures)
-    (going-statement (turn judged .loop .inv) (judged .record-at .ensures) (states c .from .given .1))
+    (going-statement (turn judged .loop .inv) (judged .record-at .ensures) (known-statement c .from .given .1))
 
 -- the end
-
-enum-told : tie.Need-enum-told Inv-loop μ-loop
-enum-told c = search needs
-
-pack-requires : tie.Need-pack-requires Inv-loop μ-loop
-pack-requires c κs = search needs
 
 same-length : tie.Need-same-length Inv-loop μ-loop
 same-length c =
@@ -132,12 +111,6 @@ returns c =
     ends-reads (entry going .pre) (going .loop .inv) (judged .record-at .ensures) (known .enum-told .given .1) (packed .pack .ensures)
 
 -- a refusal
-
-enum-known-refusal : tie.Need-enum-known-refusal Inv-loop μ-loop
-enum-known-refusal c = search needs
-
-clear-requires : tie.Need-clear-requires Inv-loop μ-loop
-clear-requires c κs = search needs
 
 same-length-3 : tie.Need-same-length-3 Inv-loop μ-loop
 same-length-3 c =
@@ -163,29 +136,9 @@ pub read-records-spec : {M : Type 1} → statement M
 read-records-spec =
     tie.close
     (tie.spec
-    Inv-loop
-    μ-loop
-    begin-requires
-    loop-holds
-    record-at-requires
-    enum-known-identifier
-    put-region-requires
-    add-count
-    add-at
-    loop-less
-    loop-again
-    enum-known-from
-    file-requires
-    add-at-2
-    loop-less-2
-    loop-again-2
-    enum-told
-    pack-requires
-    same-length
-    same-length-2
-    returns
-    enum-known-refusal
-    clear-requires
-    same-length-3
-    same-length-4
-    returns-2)
+    Inv-loop μ-loop
+    (λ c κs. search needs) loop-holds record-at-requires
+    (λ c. search needs) (λ c κs. search needs) add-count add-at loop-less loop-again
+    (λ c. search needs) (λ c κs. search needs) add-at-2 loop-less-2 loop-again-2
+    (λ c. search needs) (λ c κs. search needs) same-length same-length-2 returns
+    (λ c. search needs) (λ c κs. search needs) same-length-3 same-length-4 returns-2)

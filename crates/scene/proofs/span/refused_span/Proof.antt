@@ -9,24 +9,12 @@ use Rattle.scene.proofs.span.refused_span.Tie as tie
 returns : tie.Need-returns
 returns c = none-spans _ _ _ (numbered (c .before .before .args .refusal)) (c .if1 .taken)
 
-number-requires : tie.Need-number-requires
-number-requires c κs = search needs
-
 returns-2 : tie.Need-returns-2
 returns-2 c =
     let number-is = c .before in
     let begun = number-is .before in
     let entry = begun .before .before in
     rest-spans _ _ _ (numbered (entry .args .refusal)) (begun .if1 .left) (sym (number-is .number .ensures) ∙ c .if2 .taken)
-
-shared-slice-read-record-length : tie.Need-shared-slice-read-record-length
-shared-slice-read-record-length c = search needs
-
-record-length-requires : tie.Need-record-length-requires
-record-length-requires c κs = search needs
-
-sub-if3 : tie.Need-sub-if3
-sub-if3 c = search needs
 
 returns-3 : tie.Need-returns-3
 returns-3 c =
@@ -38,9 +26,6 @@ returns-3 c =
     cut-spans _ _ _ (numbered (entry .args .refusal)) (begun .if1 .left) (λ e. other .if2 .left (number-is .number .ensures ∙ e)) _
     (long .record-length .ensures)
     (c .if3 .taken)
-
-add-t5 : tie.Need-add-t5
-add-t5 c = search needs
 
 returns-4 : tie.Need-returns-4
 returns-4 c =
@@ -58,11 +43,6 @@ refused-span-spec =
     tie.close
     (tie.spec
     returns
-    number-requires
-    returns-2
-    shared-slice-read-record-length
-    record-length-requires
-    sub-if3
-    returns-3
-    add-t5
-    returns-4)
+    (λ c κs. search needs) returns-2
+    (λ c. search needs) (λ c κs. search needs) (λ c. search needs) returns-3
+    (λ c. search needs) returns-4)

@@ -20,9 +20,6 @@ abbrev μ-loop : tie.MeasureT-loop
 loop-holds : tie.Need-loop-holds Inv-loop μ-loop
 loop-holds c = (omega arith, λ k l. absurd (omega arith))
 
-is-bad-requires : tie.Need-is-bad-requires Inv-loop μ-loop
-is-bad-requires c κs = search needs
-
 returns : tie.Need-returns Inv-loop μ-loop
 unfolding firstBad
 returns c =
@@ -30,12 +27,6 @@ returns c =
     let identifiers = turn .before .before .args .identifiers .now in
     least-here (length identifiers) (λ p. isZero identifiers p || isRepeated identifiers p) (turn .loop .place) (omega arith)
     (turn .loop .inv .1) (sym (c .before .is-bad .ensures) ∙ c .if1 .taken)
-
-add-place : tie.Need-add-place Inv-loop μ-loop
-add-place c = omega arith
-
-loop-less : tie.Need-loop-less Inv-loop μ-loop
-loop-less c = omega arith
 
 loop-again : tie.Need-loop-again Inv-loop μ-loop
 loop-again c =
@@ -57,12 +48,6 @@ pub first-bad-spec : {M : Type 1} → statement M
 first-bad-spec =
     tie.close
     (tie.spec
-    Inv-loop
-    μ-loop
-    loop-holds
-    is-bad-requires
-    returns
-    add-place
-    loop-less
-    loop-again
-    returns-2)
+    Inv-loop μ-loop loop-holds
+    (λ c κs. search needs) returns
+    (λ c. omega arith) (λ c. omega arith) loop-again returns-2)

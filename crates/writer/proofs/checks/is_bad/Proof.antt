@@ -4,23 +4,11 @@ use Rattle.writer.proofs.CheckLaws.{zero-bad, found-bad, new-good}
 use Rattle.writer.proofs.checks.is_bad.Statement.{statement}
 use Rattle.writer.proofs.checks.is_bad.Tie as tie
 
-identifier-at-requires : tie.Need-identifier-at-requires
-identifier-at-requires c κs = search needs
-
 returns : tie.Need-returns
 returns c =
     let named = c .before .before in
     let a = named .before .before .args in
     zero-bad (a .identifiers .now) (a .place .0) _ (named .identifier-at .ensures) (c .if1 .taken)
-
-place-of-requires : tie.Need-place-of-requires
-place-of-requires c κs = search needs
-
-enum-told : tie.Need-enum-told
-enum-told c = search needs
-
-enum-told-2 : tie.Need-enum-told-2
-enum-told-2 c = search needs
 
 returns-2 : tie.Need-returns-2
 returns-2 c =
@@ -44,10 +32,5 @@ pub is-bad-spec : {M : Type 1} → statement M
 is-bad-spec =
     tie.close
     (tie.spec
-    identifier-at-requires
-    returns
-    place-of-requires
-    enum-told
-    enum-told-2
-    returns-2
-    returns-3)
+    (λ c κs. search needs) returns
+    (λ c κs. search needs) (λ c. search needs) (λ c. search needs) returns-2 returns-3)

@@ -6,12 +6,6 @@ use Rattle.writer.proofs.SceneLaws.{counted-most}
 use Rattle.writer.proofs.checks.scene_length.Statement.{statement}
 use Rattle.writer.proofs.checks.scene_length.Tie as tie
 
-mul-result : tie.Need-mul-result
-mul-result c = search needs
-
-stated-count-requires : tie.Need-stated-count-requires
-stated-count-requires c κs = search needs
-
 mul-result-2 : tie.Need-mul-result-2
 mul-result-2 c = let cells = c .before .before .args .cells .now in omega (arith, counted-most cells (length cells))
 
@@ -26,5 +20,4 @@ returns c = search needs
 
 pub scene-length-spec : {M : Type 1} → statement M
 scene-length-spec =
-    tie.close
-    (tie.spec mul-result stated-count-requires mul-result-2 add-result add-result-2 returns)
+    tie.close (tie.spec (λ c. search needs) (λ c κs. search needs) mul-result-2 add-result add-result-2 returns)

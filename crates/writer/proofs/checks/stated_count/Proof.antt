@@ -19,19 +19,10 @@ loop-holds : tie.Need-loop-holds Inv-loop μ-loop
 unfolding statedCount
 loop-holds c = (omega arith, refl)
 
-shared-slice-read-if1 : tie.Need-shared-slice-read-if1 Inv-loop μ-loop
-shared-slice-read-if1 c = omega arith
-
 add-stated : tie.Need-add-stated Inv-loop μ-loop
 add-stated c =
     let turn = c .before .before .before .before in
     omega (arith, counted-most (turn .before .args .cells .now) (turn .loop .p))
-
-add-p : tie.Need-add-p Inv-loop μ-loop
-add-p c = omega arith
-
-loop-less : tie.Need-loop-less Inv-loop μ-loop
-loop-less c = omega arith
 
 loop-again : tie.Need-loop-again Inv-loop μ-loop
 loop-again c =
@@ -50,12 +41,6 @@ pub stated-count-spec : {M : Type 1} → statement M
 stated-count-spec =
     tie.close
     (tie.spec
-    Inv-loop
-    μ-loop
-    loop-holds
-    shared-slice-read-if1
-    add-stated
-    add-p
-    loop-less
-    loop-again
-    returns)
+    Inv-loop μ-loop loop-holds
+    (λ c. omega arith) add-stated
+    (λ c. omega arith) (λ c. omega arith) loop-again returns)

@@ -6,15 +6,6 @@ use Rattle.writer.proofs.PutLaws.{region-put}
 use Rattle.writer.proofs.put.put_region.Statement.{statement}
 use Rattle.writer.proofs.put.put_region.Tie as tie
 
-slice-write-buffer : tie.Need-slice-write-buffer
-slice-write-buffer c = search needs
-
-add-put-number : tie.Need-add-put-number
-add-put-number c = search needs
-
-put-number-requires : tie.Need-put-number-requires
-put-number-requires c κs = search needs
-
 same-length : tie.Need-same-length
 same-length c =
     let s = c .before .before .before .before .before in
@@ -27,4 +18,4 @@ returns c =
 
 pub put-region-spec : {M : Type 1} → statement M
 put-region-spec =
-    tie.close (tie.spec slice-write-buffer add-put-number put-number-requires same-length returns)
+    tie.close (tie.spec (λ c. search needs) (λ c. search needs) (λ c κs. search needs) same-length returns)

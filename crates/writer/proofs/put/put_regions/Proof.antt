@@ -22,21 +22,9 @@ loop-holds : tie.Need-loop-holds Inv-loop μ-loop
 unfolding regionRecords
 loop-holds c = (omega arith, refl, refl)
 
-identifier-at-requires : tie.Need-identifier-at-requires Inv-loop μ-loop
-identifier-at-requires c κs = search needs
-
-mul-put-region : tie.Need-mul-put-region Inv-loop μ-loop
-mul-put-region c = omega arith
-
 put-region-requires : tie.Need-put-region-requires Inv-loop μ-loop
 put-region-requires c κs =
     let turn = c .before .before .before in omega (arith, turn .before .before .before .pre)
-
-add-place : tie.Need-add-place Inv-loop μ-loop
-add-place c = omega arith
-
-loop-less : tie.Need-loop-less Inv-loop μ-loop
-loop-less c = omega arith
 
 loop-again : tie.Need-loop-again Inv-loop μ-loop
 loop-again c =
@@ -64,14 +52,6 @@ pub put-regions-spec : {M : Type 1} → statement M
 put-regions-spec =
     tie.close
     (tie.spec
-    Inv-loop
-    μ-loop
-    loop-holds
-    identifier-at-requires
-    mul-put-region
-    put-region-requires
-    add-place
-    loop-less
-    loop-again
-    same-length
-    returns)
+    Inv-loop μ-loop loop-holds
+    (λ c κs. search needs) (λ c. omega arith) put-region-requires
+    (λ c. omega arith) (λ c. omega arith) loop-again same-length returns)

@@ -13,9 +13,6 @@ put-regions-requires c κs =
     let a = s .args in
     regions-fit (a .n) (a .identifiers .now) (a .cells .now) (a .buffer .now) (s .pre)
 
-mul-put-statements : tie.Need-mul-put-statements
-mul-put-statements c = search needs
-
 put-statements-requires : tie.Need-put-statements-requires
 put-statements-requires c κs =
     let regions = c .before .before .before in
@@ -59,8 +56,4 @@ put-scene-spec =
     tie.close
     (tie.spec
     put-regions-requires
-    mul-put-statements
-    put-statements-requires
-    slice-write-buffer
-    same-length
-    returns)
+    (λ c. search needs) put-statements-requires slice-write-buffer same-length returns)

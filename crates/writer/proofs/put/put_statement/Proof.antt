@@ -8,24 +8,6 @@ use Rattle.writer.proofs.PutLaws.{statement-put}
 use Rattle.writer.proofs.put.put_statement.Statement.{statement}
 use Rattle.writer.proofs.put.put_statement.Tie as tie
 
-slice-write-buffer : tie.Need-slice-write-buffer
-slice-write-buffer c = search needs
-
-add-put-number : tie.Need-add-put-number
-add-put-number c = search needs
-
-put-number-requires : tie.Need-put-number-requires
-put-number-requires c κs = search needs
-
-add-put-number-2 : tie.Need-add-put-number-2
-add-put-number-2 c = search needs
-
-put-number-requires-2 : tie.Need-put-number-requires-2
-put-number-requires-2 c κs = search needs
-
-add-buffer : tie.Need-add-buffer
-add-buffer c = search needs
-
 slice-write-buffer-2 : tie.Need-slice-write-buffer-2
 slice-write-buffer-2 c =
     let second = c .before .before in
@@ -53,12 +35,5 @@ pub put-statement-spec : {M : Type 1} → statement M
 put-statement-spec =
     tie.close
     (tie.spec
-    slice-write-buffer
-    add-put-number
-    put-number-requires
-    add-put-number-2
-    put-number-requires-2
-    add-buffer
-    slice-write-buffer-2
-    same-length
-    returns)
+    (λ c. search needs) (λ c. search needs) (λ c κs. search needs) (λ c. search needs) (λ c κs. search needs)
+    (λ c. search needs) slice-write-buffer-2 same-length returns)

@@ -24,20 +24,11 @@ entry c = c .before .before .before .before
 loop-holds : tie.Need-loop-holds Inv-loop μ-loop
 loop-holds c = (omega arith, refl, none-put _ _ _ _ _)
 
-shared-slice-read-set : tie.Need-shared-slice-read-set Inv-loop μ-loop
-shared-slice-read-set c = omega arith
-
 div-t16 : tie.Need-div-t16 Inv-loop μ-loop
 div-t16 c = let turn = c .before .before .before .before in entry turn .pre .sized .square .some
 
-identifier-at-requires : tie.Need-identifier-at-requires Inv-loop μ-loop
-identifier-at-requires c κs = search needs
-
 rem-t16 : tie.Need-rem-t16 Inv-loop μ-loop
 rem-t16 c = let turn = c .before .before .before .before .before in entry turn .pre .sized .square .some
-
-identifier-at-requires-2 : tie.Need-identifier-at-requires-2 Inv-loop μ-loop
-identifier-at-requires-2 c κs = search needs
 
 put-statement-requires : tie.Need-put-statement-requires Inv-loop μ-loop
 put-statement-requires c κs =
@@ -60,12 +51,6 @@ add-at c =
       entry turn .good .1 .1 .1 .0 .0,
       statement-room _ _ _ _ _ (entry turn .pre) (turn .loop .p) (omega arith) (tested .if1 .taken),
     )
-
-add-p : tie.Need-add-p Inv-loop μ-loop
-add-p c = omega arith
-
-loop-less : tie.Need-loop-less Inv-loop μ-loop
-loop-less c = omega arith
 
 loop-again : tie.Need-loop-again Inv-loop μ-loop
 loop-again c =
@@ -102,18 +87,8 @@ pub put-statements-spec : {M : Type 1} → statement M
 put-statements-spec =
     tie.close
     (tie.spec
-    Inv-loop
-    μ-loop
-    loop-holds
-    shared-slice-read-set
-    div-t16
-    identifier-at-requires
-    rem-t16
-    identifier-at-requires-2
-    put-statement-requires
-    add-at
-    add-p
-    loop-less
-    loop-again
-    same-length
-    returns)
+    Inv-loop μ-loop loop-holds
+    (λ c. omega arith) div-t16
+    (λ c κs. search needs) rem-t16
+    (λ c κs. search needs) put-statement-requires add-at
+    (λ c. omega arith) (λ c. omega arith) loop-again same-length returns)
