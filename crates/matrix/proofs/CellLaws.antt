@@ -4,7 +4,8 @@ use mathlib.Core.Path.{_≡_, sym, ap, _∙_, subst}
 use mathlib.Core.Bool.{Bool, true, false, not, true≢false}
 use mathlib.Core.List.{List}
 use Prim.Native.Nat.{ℕ, zero, suc, _+_, _*_, _≤_, _<_}
-use native.Mathlib.Nat.{le-trans, not-suc-le-zero, zero-add, add-zero, div-lt-iff-lt-mul, mod-lt, div-add-mod', mul-add-div-right, div-eq-of-lt, mul-add-mod-self-right, mod-eq-of-lt, mul-le-mul-right}
+use native.Mathlib.Nat.{le-trans, not-suc-le-zero, zero-add, add-zero, mul-le-mul-right}
+use native.Mathlib.Nat.{div-lt-iff-lt-mul, div-add-mod', div-eq-of-lt, mod-lt, mod-eq-of-lt, mul-add-div-right, mul-add-mod-self-right}
 use native.Mathlib.Omega.{arith}
 use lib.Dec.{eqb}
 use lib.ListN.{length, getD, set}

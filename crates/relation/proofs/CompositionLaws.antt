@@ -12,7 +12,8 @@ use Rattle.relation.specs.Composition.{table, compose}
 use Rattle.lists.proofs.TabledLaws.{getD-tabled}
 use Rattle.relation.specs.Lent.{entryAt, listed, composeBy}
 use Rattle.relation.proofs.Member.{members-over, only-has, only-has-one, some-member}
-use Rattle.relation.proofs.Over.{over-part, over-same, over-only, over-onlys, over-empties, over-empty, over-over, over-swap, over-unite, over-unites, over-constant, over-byte}
+use Rattle.relation.proofs.Over.{over-part, over-same, over-only, over-onlys, over-empties, over-empty}
+use Rattle.relation.proofs.Over.{over-over, over-swap, over-unite, over-unites, over-constant, over-byte}
 use Rattle.relation.proofs.Entries.{entry}
 use Rattle.relation.proofs.Within.{within-members, members-within}
 use Rattle.relation.proofs.ConverseLaws.{flipped}

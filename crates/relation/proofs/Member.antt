@@ -4,7 +4,8 @@ use mathlib.Core.Path.{_≡_, refl, sym, ap, ap₂, _∙_, subst}
 use mathlib.Core.Logic.{_⊎_, inl, inr, ⊎-elim}
 use mathlib.Core.Bool.{Bool, true, false, cond, _&&_, _||_, true≢false, false≢true}
 use native.Mathlib.Decide.{decLt}
-use native.Mathlib.Nat.{zero-div, mod-lt, div-one, div-add-mod', div-eq-of-lt, not-suc-le-zero, le-of-suc-le-suc, zero-lt-suc, le-refl, not-le-of-lt, eq-or-lt-of-le, pow-suc, mul-mod-left, mul-div-cancel, lt-of-lt-of-le, le-add-right}
+use native.Mathlib.Nat.{not-suc-le-zero, le-of-suc-le-suc, zero-lt-suc, le-refl, le-add-right, not-le-of-lt, lt-of-lt-of-le, eq-or-lt-of-le}
+use native.Mathlib.Nat.{zero-div, div-one, div-add-mod', div-eq-of-lt, mod-lt, pow-suc, mul-mod-left, mul-div-cancel}
 use native.Mathlib.Omega.{arith}
 use native.Mathlib.Numerals.{add-one, one-add}
 use lib.Dec.{T, eqb, eqb→eq, eqb-refl, eqb·zero-suc, eqb·suc-zero, eqb·suc-suc, lit<}

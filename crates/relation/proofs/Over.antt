@@ -10,7 +10,8 @@ use native.Mathlib.Nat.{le-refl, le-suc, le-trans}
 use lib.Dec.{T, lit<}
 use lib.Bits.{or-lt, or-zero-r}
 use Rattle.relation.specs.Sets.{has, only, empty, unite, unionOf, over}
-use Rattle.relation.proofs.Member.{Part, both-ways, over-members, members-over, unite-members, members-unite, only-has, only-has-one, empty-has-none, byte-member, some-member}
+use Rattle.relation.proofs.Member.{Part, both-ways, over-members, members-over, unite-members, members-unite}
+use Rattle.relation.proofs.Member.{only-has, only-has-one, empty-has-none, byte-member, some-member}
 
 pub over-part : (a b : ℕ) (f g : ℕ → ℕ) → Part a b → ((p : ℕ) → p < 8 → Part (f p) (g p)) → Part (over a f) (over b g)
 over-part a b f g h k r t =

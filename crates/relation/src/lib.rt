@@ -47,7 +47,8 @@ impl RelationSet {
 
     // The empty set, the eight relations in the order of the bits, and the universal set, as they are named above.
     pub fn named() -> [u8; 10]
-        ensures { λ r. ⌜ r ≡ empty ∷ only disjoint ∷ only meet ∷ only equal ∷ only inside ∷ only coveredBy ∷ only contains ∷ only covers ∷ only overlap ∷ universal ∷ [] ⌝ }
+        ensures { λ r. ⌜ r ≡ empty ∷ only disjoint ∷ only meet ∷ only equal ∷ only inside ∷ only coveredBy ∷ only contains
+            ∷ only covers ∷ only overlap ∷ universal ∷ [] ⌝ }
     {
         [
             RelationSet::EMPTY.0,

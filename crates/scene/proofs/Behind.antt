@@ -17,7 +17,10 @@ use Rattle.scene.specs.Reading.{refusedAt, records, readScene}
 use Rattle.scene.specs.Reached.{Reached, start, Whole, Region}
 use Rattle.scene.specs.Reached as reached
 use Rattle.scene.specs.Alike.{Agree, Alike, whole-alike, rest-alike, cut-alike}
-use Rattle.scene.proofs.Reasons.{Begins, Looks, Declares, States, Reason, no-byte, unknown-kind, region-cut, zero-declared, declared-twice, too-many, new-region, statement-cut, from-undeclared, to-undeclared, empty-set, statement, no-region, bytes-left, region-length, statement-length, end-length, some-length, decides, declares-why, states-why}
+use Rattle.scene.proofs.Reasons.{Begins, Looks, Declares, States, Reason, decides, declares-why, states-why}
+use Rattle.scene.proofs.Reasons.{no-byte, unknown-kind, region-cut, zero-declared, declared-twice, too-many, new-region}
+use Rattle.scene.proofs.Reasons.{statement-cut, from-undeclared, to-undeclared, empty-set, statement, no-region, bytes-left}
+use Rattle.scene.proofs.Reasons.{region-length, statement-length, end-length, some-length}
 use Rattle.scene.proofs.Reached.{at-refusal, ended-so}
 use Rattle.scene.proofs.Endings.{within-limit, stopped}
 

@@ -7,7 +7,8 @@ use lib.Dec.{eqb}
 use borrow.Author.Tests.{ne-eqb}
 use Rattle.scene.specs.Numbers.{numberOf}
 use Rattle.scene.specs.declared.Refusal.{Refusal}
-use Rattle.scene.specs.declared.Refusal.the-variants.{NoRegion, CutShort, UnknownKind, IdentifierZero, DeclaredTwice, TooManyRegions, NotDeclared, EmptySet, BytesLeft}
+use Rattle.scene.specs.declared.Refusal.the-variants.{NoRegion, CutShort, UnknownKind, IdentifierZero, DeclaredTwice}
+use Rattle.scene.specs.declared.Refusal.the-variants.{TooManyRegions, NotDeclared, EmptySet, BytesLeft}
 
 pub record Numbered (number : ℕ) : Type 0 where
   pub positive : 0 < number

@@ -19,7 +19,8 @@ use Rattle.filing.specs.Places.{placeOf}
 use Rattle.filing.proofs.PlaceLaws.{place-named, by-place}
 use Rattle.scene.specs.Format.{regionKind, statementKind, endKind, lengthOf}
 use Rattle.scene.specs.Reached.{Whole, Region}
-use Rattle.scene.specs.declared.Refusal.the-variants.{NoRegion, CutShort, UnknownKind, IdentifierZero, DeclaredTwice, TooManyRegions, NotDeclared, EmptySet, BytesLeft}
+use Rattle.scene.specs.declared.Refusal.the-variants.{NoRegion, CutShort, UnknownKind, IdentifierZero, DeclaredTwice}
+use Rattle.scene.specs.declared.Refusal.the-variants.{TooManyRegions, NotDeclared, EmptySet, BytesLeft}
 use Rattle.scene.proofs.Numbered.{Numbered, numbered}
 use Rattle.scene.specs.Record.{Judged, declares, states, ends, fails, judgedRegion, judgedStatement, judgedEnd, recordAt}
 

@@ -14,7 +14,8 @@ use Rattle.scene.specs.Numbers.{answerOf}
 use Rattle.scene.specs.declared.Reading.{Reading}
 use Rattle.scene.specs.declared.Reading.the-variants.{Accepted, WrongLength, TooLong, Refused}
 use Rattle.scene.specs.declared.Refusal.{Refusal}
-use Rattle.scene.specs.declared.Refusal.the-variants.{NoRegion, CutShort, UnknownKind, IdentifierZero, DeclaredTwice, TooManyRegions, NotDeclared, EmptySet, BytesLeft}
+use Rattle.scene.specs.declared.Refusal.the-variants.{NoRegion, CutShort, UnknownKind, IdentifierZero, DeclaredTwice}
+use Rattle.scene.specs.declared.Refusal.the-variants.{TooManyRegions, NotDeclared, EmptySet, BytesLeft}
 use Rattle.scene.proofs.Refusal.number.Kinds as number-kinds
 use Rattle.scene.proofs.Refusal.number.Reads as number-reads
 use Rattle.scene.proofs.read.Kinds as read-kinds

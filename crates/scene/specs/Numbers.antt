@@ -3,7 +3,8 @@ use Prim.Native.Nat.{ℕ}
 use Rattle.answer.specs.Answer.{Answer, accepts, refuses}
 use Rattle.scene.specs.Format.{mostBytes}
 use Rattle.scene.specs.declared.Refusal.{Refusal}
-use Rattle.scene.specs.declared.Refusal.the-variants.{NoRegion, CutShort, UnknownKind, IdentifierZero, DeclaredTwice, TooManyRegions, NotDeclared, EmptySet, BytesLeft}
+use Rattle.scene.specs.declared.Refusal.the-variants.{NoRegion, CutShort, UnknownKind, IdentifierZero, DeclaredTwice}
+use Rattle.scene.specs.declared.Refusal.the-variants.{TooManyRegions, NotDeclared, EmptySet, BytesLeft}
 use Rattle.scene.specs.declared.Reading.{Reading}
 use Rattle.scene.specs.declared.Reading.the-variants.{Accepted, WrongLength, TooLong, Refused}
 

@@ -62,7 +62,8 @@ pub enum Reading {
 
 // Reads a scene into 64 identifiers and 4,096 cells: the first n identifiers, and the cells in rows of n.
 pub fn read(scene: &[u8], identifiers: &mut [u32], cells: &mut [u8]) -> Reading
-    ensures { λ r. ⌜ Reads (now (scene .entry)) (holding (now (identifiers .entry)) (now (cells .entry))) (holding (now (identifiers .exit)) (now (cells .exit))) r ⌝ }
+    ensures { λ r. ⌜ Reads (now (scene .entry)) (holding (now (identifiers .entry)) (now (cells .entry)))
+        (holding (now (identifiers .exit)) (now (cells .exit))) r ⌝ }
 {
     if !filing::are_lent(identifiers, cells) {
         return Reading::WrongLength;

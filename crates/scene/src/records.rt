@@ -13,7 +13,8 @@ ghost use Rattle.scene.specs.Inner.{Readable};
 // Reads the records until the scene ends or one is refused. A region takes the next place.
 pub(crate) fn read_records(scene: &[u8], identifiers: &mut [u32], cells: &mut [u8]) -> Reading
     requires { ⌜ Readable (now scene) (holding (now identifiers) (now cells)) ⌝ }
-    ensures { λ r. ⌜ Reads (now (scene .entry)) (holding (now (identifiers .entry)) (now (cells .entry))) (holding (now (identifiers .exit)) (now (cells .exit))) r ⌝ }
+    ensures { λ r. ⌜ Reads (now (scene .entry)) (holding (now (identifiers .entry)) (now (cells .entry)))
+        (holding (now (identifiers .exit)) (now (cells .exit))) r ⌝ }
 {
     filing::begin(identifiers, cells, RelationSet::UNIVERSAL);
     let mut at: usize = 0;

@@ -16,7 +16,8 @@ use Rattle.writer.proofs.ReadBack.{statementAt, statementsOf, statement
 
 module _ (n : ℕ) (cells : List ℕ) (bytes : (p : ℕ) → getD cells p 0 < 256) (i j : ℕ) (column-of : j < n) where
   -- another cell's statement changes nothing
-  not-narrowed : (p : ℕ) → (p ≡ i * n + j → ⊥) → statedCell startingCell (statementsOf (suc p) n cells) i j ≡ statedCell startingCell (statementsOf p n cells) i j
+  not-narrowed : (p : ℕ) → (p ≡ i * n + j → ⊥) → statedCell startingCell (statementsOf (suc p) n cells) i j
+      ≡ statedCell startingCell (statementsOf p n cells) i j
   not-narrowed p h =
       split-eq (getD cells p 0) universal
       (λ u. rw (statements-as-before n p cells u))

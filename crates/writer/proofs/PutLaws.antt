@@ -14,7 +14,8 @@ use Rattle.lists.proofs.BigEndianLaws.{put-fits}
 use Rattle.scene.specs.Format.{endKind, regionRecord, statementRecord}
 use Rattle.writer.specs.Scene.{regionRecords, cellRecord, statementRecords, sceneOf}
 use Rattle.writer.specs.Inner.{SceneRoom, Room, Put}
-use Rattle.writer.proofs.SceneLaws.{length-regions, regions-more, length-statements, length-scene, statements-same, statements-more, counted-more, counted-grows}
+use Rattle.writer.proofs.SceneLaws.{length-regions, length-statements, length-scene, regions-more}
+use Rattle.writer.proofs.SceneLaws.{statements-same, statements-more, counted-more, counted-grows}
 
 -- ---- one record
 
