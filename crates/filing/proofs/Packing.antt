@@ -24,9 +24,13 @@ few-cells n h = mul-le-mul h h
 pub positive : (n at : ℕ) → at < n * n → 0 < n
 positive n at h = omega (arith, row-lt n at h)
 
--- a cell's row and column are below 64 both
-pub rows-lt : (n at : ℕ) → n ≤ mostRegions → at < n * n → (row n at < mostRegions) × (column n at < mostRegions)
-rows-lt n at h l = (le-trans (row-lt n at l) h, le-trans (column-lt n at l) h)
+-- the cell at a place has its row and its column among 64
+pub record AmongRows (n at : ℕ) : Type 0 where
+  pub row-few : row n at < mostRegions
+  pub column-few : column n at < mostRegions
+
+pub among-rows : (n at : ℕ) → n ≤ mostRegions → at < n * n → AmongRows n at
+among-rows n at h l = record { row-few = le-trans (row-lt n at l) h; column-few = le-trans (column-lt n at l) h }
 
 -- the cell at a place in rows of n comes from that place or a later one
 source-le : (n at : ℕ) → n ≤ mostRegions → at ≤ row n at * mostRegions + column n at

@@ -13,6 +13,7 @@ use Rattle.filing.specs.Said.{Said, regions, naming, silent, declared, statemen
 use Rattle.filing.specs.Areas.{Areas, holding, Lent, started, filedIn}
 use Rattle.filing.proofs.PlaceLaws.{place-found}
 use Rattle.filing.proofs.Held.{Held, held-begins, held-lent, held-front, held-declared, held-stated}
+use Rattle.scene.specs.Format.{mostBytes}
 use Rattle.scene.specs.Record.{recordAt}
 use Rattle.scene.specs.Reading.{acceptedSaid, refusedAt, records}
 use Rattle.scene.specs.Numbers.{numberOf}
@@ -31,6 +32,11 @@ pub record Going (scene identifiers cells : List ℕ) (at count : ℕ) : Type 0 
   pub reached : Reached scene at said
   pub counted : count ≡ regions said
   pub held : Held startingCell said (holding identifiers cells)
+
+-- a record of so many bytes ends within the scene, and the scene within the limit
+pub record EndsWithin (scene : List ℕ) (at bytes : ℕ) : Type 0 where
+  pub within : at + bytes ≤ length scene
+  pub short : length scene ≤ mostBytes
 
 -- nothing is said yet
 pub going-begins : {before : Areas} (scene identifiers cells : List ℕ) → Lent before → holding identifiers cells ≡ started universal before

@@ -1,7 +1,7 @@
 -- `filing::packed_cell` meets its contract: a cell is read at its place in rows of 64.
 use mathlib.Core.Path.{sym}
 use native.Mathlib.Omega.{arith}
-use Rattle.filing.proofs.Packing.{few-cells, positive, rows-lt, packed-in, packed-past}
+use Rattle.filing.proofs.Packing.{few-cells, positive, among-rows, packed-in, packed-past}
 use Rattle.filing.proofs.packed_cell.Statement.{statement}
 use Rattle.filing.proofs.packed_cell.Tie as tie
 
@@ -18,15 +18,15 @@ rem-column : tie.Need-rem-column
 rem-column c = positive _ _ (c .if1 .left)
 
 mul-result : tie.Need-mul-result
-mul-result c = omega (arith, rows-lt _ _ (c .before .pre .few) (c .if1 .left))
+mul-result c = omega (arith, among-rows _ _ (c .before .pre .few) (c .if1 .left))
 
 add-result : tie.Need-add-result
-add-result c = omega (arith, rows-lt _ _ (c .before .pre .few) (c .if1 .left))
+add-result c = omega (arith, among-rows _ _ (c .before .pre .few) (c .if1 .left))
 
 shared-slice-read-result : tie.Need-shared-slice-read-result
 shared-slice-read-result c =
     let rows = c .before .before .pre in
-    omega (arith, rows-lt _ _ (rows .few) (c .before .if1 .left), rows .long)
+    omega (arith, among-rows _ _ (rows .few) (c .before .if1 .left), rows .long)
 
 returns-2 : tie.Need-returns-2
 returns-2 c = sym (packed-in _ _ (c .before .before .pre) _ (c .before .if1 .left))

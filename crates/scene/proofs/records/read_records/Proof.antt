@@ -1,13 +1,12 @@
 -- `scene::records::read_records` meets its contract. The loop's invariant is `Going`: the areas hold what the records before `at`
 -- have said. The measure is what is left of the scene.
-use Prim.Native.Nat.{_+_, _-_, _≤_}
+use Prim.Native.Nat.{_-_}
 use mathlib.Core.Path.{sym, _∙_}
 use native.Mathlib.Omega.{arith}
 use borrow.Author.Needs.{needs}
 use denote.Ref.{now}
 use lib.ListN.{length}
-use Rattle.scene.specs.Format.{mostBytes}
-use Rattle.scene.proofs.Going.{Going, going-begins, going-lent, going-count, region-fits, going-region, statement-fits, going-statement}
+use Rattle.scene.proofs.Going.{Going, EndsWithin, going-begins, going-lent, going-count, region-fits, going-region, statement-fits, going-statement}
 use Rattle.scene.proofs.Promised.{ends-reads, refused-reads}
 use Rattle.scene.proofs.records.read_records.Statement.{statement}
 use Rattle.scene.proofs.records.read_records.Tie as tie
@@ -45,10 +44,13 @@ abbrev known-region : tie.After-slice-known5 Inv-loop μ-loop → tie.After-iden
 known-region c = c .before .before .before .before .before
 
 region-ends : (c : tie.After-identifier Inv-loop μ-loop) → let g = turn (c .before .before) in
-    let scene = now (entry g .args .scene) in (g .loop .at + 5 ≤ length scene) × (length scene ≤ mostBytes)
+    EndsWithin (now (entry g .args .scene)) (g .loop .at) 5
 region-ends c =
     let judged = c .before .before in
-    (region-fits (turn judged .loop .inv) (judged .record-at .ensures) (c .identifier .given .1), entry (turn judged) .pre .scene-short)
+    record {
+      within = region-fits (turn judged .loop .inv) (judged .record-at .ensures) (c .identifier .given .1);
+      short = entry (turn judged) .pre .scene-short;
+    }
 
 add-count : tie.Need-add-count Inv-loop μ-loop
 add-count c = omega (arith, going-count (turn (known-region c .before .before) .loop .inv))
@@ -71,10 +73,13 @@ abbrev known-statement : tie.After-slice-known6 Inv-loop μ-loop → tie.After-f
 known-statement c = c .before .before .before .before .before
 
 statement-ends : (c : tie.After-from Inv-loop μ-loop) → let g = turn (c .before .before) in
-    let scene = now (entry g .args .scene) in (g .loop .at + 10 ≤ length scene) × (length scene ≤ mostBytes)
+    EndsWithin (now (entry g .args .scene)) (g .loop .at) 10
 statement-ends c =
     let judged = c .before .before in
-    (statement-fits (turn judged .loop .inv) (judged .record-at .ensures) (c .from .given .1), entry (turn judged) .pre .scene-short)
+    record {
+      within = statement-fits (turn judged .loop .inv) (judged .record-at .ensures) (c .from .given .1);
+      short = entry (turn judged) .pre .scene-short;
+    }
 
 add-at-2 : tie.Need-add-at-2 Inv-loop μ-loop
 add-at-2 c = omega (arith, statement-ends (known-statement c))
