@@ -8,5 +8,8 @@ pub mod Unique
 pub mod Wide
 -- demand 3 about the call for C
 pub mod DemandThree
+-- rounds a few at a time about the calls for C
+pub mod RunCalls
+pub mod SharedOutExports
 -- the round trip about the calls for C
 pub mod RoundTrip

@@ -1,19 +1,25 @@
 -- What the exports promise, by the ways they can go: an answer area of another length, and what the calls behind them left.
 use mathlib.Core.Path.{_≡_, refl, sym, ap, _∙_}
-use mathlib.Core.Bool.{false, cond}
+use mathlib.Core.Bool.{true, false, cond}
 use mathlib.Core.List.{List}
 use Prim.Native.Nat.{ℕ}
 use borrow.Author.Tests.{eq-eqb, ne-eqb}
 use lib.Dec.{eqb}
 use lib.ListN.{length, replicate}
 use Rattle.lists.specs.BigEndian.{AllBytes, numbersBytes}
-use Rattle.answer.specs.Answer.{Answer}
-use Rattle.answer.specs.Ending.{answered}
+use Rattle.answer.specs.Answer.{Answer, answer}
+use Rattle.answer.specs.Ending.{Ending, refused, answered}
 use Rattle.answer.specs.Bytes.{Answers}
 use Rattle.answer.proofs.Exporting.{unfit-answers, unfit-leaves, fit-leaves, same-answers}
+use Rattle.network.specs.declared.Area.{Area}
+use Rattle.network.specs.declared.Area.the-variants.{First, Second}
+use Rattle.network.specs.declared.Start.{Start}
 use Rattle.network.specs.declared.Verdict.{Verdict}
-use Rattle.network.specs.Numbers.{answerOf as verdictAnswer}
+use Rattle.network.specs.declared.Verdict.the-variants.{OutOfRange}
+use Rattle.network.specs.Numbers.{answerOf as verdictAnswer, answerOfStart}
 use Rattle.network.specs.Refined.{Refined}
+use Rattle.network.specs.Prepared.{Prepared}
+use Rattle.network.specs.Ran.{answeredFrom, leftBy, startsFrom, ranFrom, Ran}
 use Rattle.filing.specs.Areas.{Areas, holding, areLent}
 use Rattle.scene.specs.declared.Reading.{Reading}
 use Rattle.scene.specs.declared.Reading.the-variants.{WrongLength}
@@ -26,6 +32,8 @@ use Rattle.writer.specs.declared.Writing.{Writing}
 use Rattle.writer.specs.Numbers.{answerOf as writingAnswer}
 use Rattle.writer.specs.Writes.{Writes}
 use Rattle.chachaqom.specs.RefineExport.{RefineExport}
+use Rattle.chachaqom.specs.PrepareExport.{PrepareExport}
+use Rattle.chachaqom.specs.RunExport.{isArea, areaOf, runOf, RunExport}
 use Rattle.chachaqom.specs.ReadExport.{lentBytes, ReadExport}
 use Rattle.chachaqom.specs.WriteExport.{identifiersLent, WriteExport}
 
@@ -49,6 +57,76 @@ refine-answered {first = first} {second = second} {answer = answer} h r e a = re
   inFirst = fit-leaves answer first h (r .inFirst);
   inSecond = fit-leaves answer second h (r .inSecond);
 }
+
+-- ---- preparing
+
+-- an answer area of another length
+pub prepare-unfit : (n : ℕ) (cells first second answer : List ℕ) → (length answer ≡ 20 → ⊥)
+    → PrepareExport n cells first second answer first second answer 2
+prepare-unfit n cells first second answer h = record {
+  answers = unfit-answers _ answer h;
+  inFirst = unfit-leaves answer _ first h;
+  inSecond = unfit-leaves answer _ second h;
+}
+
+-- what the preparation left, and its numbers
+pub prepare-answered : {n : ℕ} {cells first second answer first′ second′ answer′ : List ℕ} {number : ℕ} {start : Start} {numbers : Answer}
+    → length answer ≡ 20 → Prepared n cells first second first′ second′ start → numbers ≡ answerOfStart start
+    → Answers numbers answer answer′ number → PrepareExport n cells first second answer first′ second′ answer′ number
+prepare-answered {first = first} {second = second} {answer = answer} h p e a = record {
+  answers = same-answers (e ∙ p .answer) a;
+  inFirst = fit-leaves answer first h (p .inFirst);
+  inSecond = fit-leaves answer second h (p .inSecond);
+}
+
+-- ---- running
+
+-- an answer area of another length
+pub run-unfit : (n area most : ℕ) (first second answer : List ℕ) → (length answer ≡ 20 → ⊥)
+    → RunExport n area most first second answer first second answer 2
+run-unfit n area most first second answer h = record {
+  answers = unfit-answers _ answer h;
+  inFirst = unfit-leaves answer _ first h;
+  inSecond = unfit-leaves answer _ second h;
+}
+
+module _ (n area most : ℕ) (first second : List ℕ) where
+  -- a number that is no area
+  pub no-area : isArea area ≡ false → runOf n area most first second ≡ refused (answer 1 0 0 0 0)
+  unfolding runOf
+  no-area e = rw e
+
+  pub an-area : isArea area ≡ true → runOf n area most first second ≡ ranFrom n (areaOf area) most first second
+  unfolding runOf
+  an-area e = rw e
+
+  untouched-by-run : isArea area ≡ false → (which : Area) (held : List ℕ)
+      → held ≡ leftBy n (areaOf area) (startsFrom n (areaOf area) first second) (runOf n area most first second) which held
+  unfolding leftBy
+  untouched-by-run e which held = rw (no-area e)
+
+pub run-no-area : {n area most : ℕ} {first second answer answer′ : List ℕ} {number : ℕ} {numbers : Answer} → length answer ≡ 20
+    → isArea area ≡ false → numbers ≡ verdictAnswer OutOfRange → Answers numbers answer answer′ number
+    → RunExport n area most first second answer first second answer′ number
+run-no-area {n} {area} {most} {first} {second} {answer} h f e a = record {
+  answers = rw (no-area n area most first second f) (same-answers e a);
+  inFirst = fit-leaves answer first h (untouched-by-run n area most first second f First first);
+  inSecond = fit-leaves answer second h (untouched-by-run n area most first second f Second second);
+}
+
+-- what the rounds left, and their verdict's numbers
+pub run-answered : {n area most : ℕ} {from : Area} {first second answer first′ second′ answer′ : List ℕ} {number : ℕ} {verdict : Verdict}
+    {numbers : Answer} → length answer ≡ 20 → isArea area ≡ true → from ≡ areaOf area → Ran n from most first second first′ second′ verdict
+    → numbers ≡ verdictAnswer verdict → Answers numbers answer answer′ number
+    → RunExport n area most first second answer first′ second′ answer′ number
+run-answered {n} {area} {most} {from} {first} {second} {answer} h i f r e a =
+    let same = an-area n area most first second i in
+    let r′ = rw f at r in
+    record {
+      answers = rw same (same-answers (e ∙ r′ .answer) a);
+      inFirst = fit-leaves answer first h (rw same (r′ .inFirst));
+      inSecond = fit-leaves answer second h (rw same (r′ .inSecond));
+    }
 
 -- ---- reading
 

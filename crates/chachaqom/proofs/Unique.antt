@@ -7,6 +7,10 @@ use denote.Triple.Clauses.{AtExit}
 use Rattle.answer.proofs.Exporting.{one-answer}
 use Rattle.chachaqom.proofs.refine.chachaqom_refine.Kinds as refine-kinds
 use Rattle.chachaqom.proofs.refine.chachaqom_refine.Reads as refine-reads
+use Rattle.chachaqom.proofs.prepare.chachaqom_prepare.Kinds as prepare-kinds
+use Rattle.chachaqom.proofs.prepare.chachaqom_prepare.Reads as prepare-reads
+use Rattle.chachaqom.proofs.run.chachaqom_run.Kinds as run-kinds
+use Rattle.chachaqom.proofs.run.chachaqom_run.Reads as run-reads
 use Rattle.chachaqom.proofs.read.chachaqom_read.Kinds as read-kinds
 use Rattle.chachaqom.proofs.read.chachaqom_read.Reads as read-reads
 use Rattle.chachaqom.proofs.write.chachaqom_write.Kinds as write-kinds
@@ -19,6 +23,22 @@ pub refine-unique : (κs : Lfts 4) (a : Dens κs refine-kinds.ps) (r r' : resT r
     → ((r ≡ r') × (now (s .1 .1 .1 .1 .0) ≡ now (s' .1 .1 .1 .1 .0)))
     × (now (s .1 .1 .0) ≡ now (s' .1 .1 .0)) × (now (s .1 .1 .1 .0) ≡ now (s' .1 .1 .1 .0))
 refine-unique κs a r r' s s' p q =
+    (one-answer (p .answers) (q .answers), p .inFirst ∙ sym (q .inFirst), p .inSecond ∙ sym (q .inSecond))
+
+pub prepare-unique : (κs : Lfts 4) (a : Dens κs prepare-kinds.ps) (r r' : resT prepare-kinds.r κs .Denot)
+    (s s' : AtExit (endedOf 4 prepare-kinds.ps prepare-kinds.r) κs)
+    → prepare-reads.Post κs a r s → prepare-reads.Post κs a r' s'
+    → ((r ≡ r') × (now (s .1 .1 .1 .1 .0) ≡ now (s' .1 .1 .1 .1 .0)))
+    × (now (s .1 .1 .0) ≡ now (s' .1 .1 .0)) × (now (s .1 .1 .1 .0) ≡ now (s' .1 .1 .1 .0))
+prepare-unique κs a r r' s s' p q =
+    (one-answer (p .answers) (q .answers), p .inFirst ∙ sym (q .inFirst), p .inSecond ∙ sym (q .inSecond))
+
+pub run-unique : (κs : Lfts 3) (a : Dens κs run-kinds.ps) (r r' : resT run-kinds.r κs .Denot)
+    (s s' : AtExit (endedOf 3 run-kinds.ps run-kinds.r) κs)
+    → run-reads.Post κs a r s → run-reads.Post κs a r' s'
+    → ((r ≡ r') × (now (s .1 .1 .1 .1 .1 .0) ≡ now (s' .1 .1 .1 .1 .1 .0)))
+    × (now (s .1 .1 .1 .0) ≡ now (s' .1 .1 .1 .0)) × (now (s .1 .1 .1 .1 .0) ≡ now (s' .1 .1 .1 .1 .0))
+run-unique κs a r r' s s' p q =
     (one-answer (p .answers) (q .answers), p .inFirst ∙ sym (q .inFirst), p .inSecond ∙ sym (q .inSecond))
 
 -- the number, the answer, the identifiers and the cells
