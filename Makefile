@@ -84,7 +84,7 @@ host: $(BUILD)/host $(BUILD)/host-in-c++
 	$(TOOLCHAIN) $$RUN $(BUILD)/host-in-c++
 
 HOST = $(wildcard tests/host/*.c)
-HOST_READS = $(HOST) tests/host/host.h include/chachaqom.h
+HOST_READS = $(HOST) $(wildcard tests/host/*.h) include/chachaqom.h
 
 $(BUILD)/host: $(HOST_READS) $(ARCHIVE) | $(BUILD)
 	$(TOOLCHAIN) $$CC $(STRICT_C) -O1 -g $(HOST) $(ARCHIVE) -o $@

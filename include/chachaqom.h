@@ -4,8 +4,9 @@
  * A scene is a file that declares regions by identifier and states which of eight relations may
  * hold between two of them. chachaqom_read reads a scene into a matrix of relation sets, one cell
  * for each ordered pair of regions. chachaqom_refine removes from such a matrix what cannot hold,
- * or refuses it and names the region, pair or triple at which nothing is left. chachaqom_write
- * writes a scene from identifiers and a matrix; reading it gives back both.
+ * or refuses it and names the region, pair or triple at which nothing is left. chachaqom_prepare
+ * and chachaqom_run do the same a few rounds at a time, for a host that redraws in between.
+ * chachaqom_write writes a scene from identifiers and a matrix; reading it gives back both.
  *
  *     uint8_t identifiers[CHACHAQOM_IDENTIFIERS_LENGTH], cells[CHACHAQOM_CELLS_LENGTH];
  *     uint8_t first[CHACHAQOM_CELLS_LENGTH], second[CHACHAQOM_CELLS_LENGTH];
@@ -35,7 +36,8 @@
  *
  * Answers. The five numbers of an answer are
  *     0  CHACHAQOM_ANSWER_NUMBER   0 for acceptance, else the refusal number; also returned
- *     1  CHACHAQOM_ANSWER_PLACES   the first place that the refusal names; 0 where there is none
+ *     1  CHACHAQOM_ANSWER_PLACES   the first place that the refusal names, at 24 the area; 0 where
+ *                                  there is none
  *     2                            the second place; 0 where there is none
  *     3                            the third place; 0 where there is none
  *     4  CHACHAQOM_ANSWER_COUNT    a count; which one, the call says
@@ -110,8 +112,16 @@ enum {
 /* Bytes of stack that a call uses at most. */
 enum {
     CHACHAQOM_REFINE_STACK = 3072,
+    CHACHAQOM_PREPARE_STACK = 1024,
+    CHACHAQOM_RUN_STACK = 3072,
     CHACHAQOM_READ_STACK = 1024,
     CHACHAQOM_WRITE_STACK = 1024
+};
+
+/* The two work areas of chachaqom_run: no other number is one. */
+enum {
+    CHACHAQOM_FIRST_AREA = 1,
+    CHACHAQOM_SECOND_AREA = 2
 };
 
 /* Which number of an answer is which, for chachaqom_number. */
@@ -128,6 +138,7 @@ enum {
 enum {
     CHACHAQOM_ACCEPTED = 0,
     CHACHAQOM_OUT_OF_RANGE = 1,     /* matrix, writing: n is 0 or over 64, names 0;
+                                       running: or the area is neither 1 nor 2, names 0;
                                        reading: ends with no region, names the End record */
     CHACHAQOM_WRONG_LENGTH = 2,     /* the length of an array is wrong; names 0 */
     CHACHAQOM_TOO_LONG = 3,         /* the scene is, or would be, over 32,768 bytes; names 32,768 */
@@ -148,8 +159,12 @@ enum {
     CHACHAQOM_NODE = 21,            /* a region cannot equal itself; names its place */
     CHACHAQOM_ARC = 22,             /* what is stated of a pair, both ways, leaves nothing; names
                                        the two places, the lower one first */
-    CHACHAQOM_PATH = 23             /* the sets ran out along a triple; names i, k, j: going
+    CHACHAQOM_PATH = 23,            /* the sets ran out along a triple; names i, k, j: going
                                        through k left nothing of i towards j. The three differ */
+    CHACHAQOM_UNFINISHED = 24,      /* running: the rounds are used up; names the area that holds
+                                       the network, 1 or 2 */
+    CHACHAQOM_UNPREPARED = 25       /* running: the network has an empty set, a diagonal other than
+                                       equal, or a pair that is not converse; names 0 */
 };
 
 /*
@@ -206,6 +221,101 @@ uint32_t chachaqom_refine(size_t n, const uint8_t *cells, size_t cells_length,
                           uint8_t *first, size_t first_length,
                           uint8_t *second, size_t second_length,
                           uint8_t *answer, size_t answer_length);
+
+/*
+ * Prepares a matrix for chachaqom_run: the checks, the node rule and the arc rule of
+ * chachaqom_refine, and none of its rounds.
+ *
+ *   n              the number of regions, 1 to 64
+ *   cells          the matrix row by row: cells[i * n + j] is the set of region i towards region j
+ *   cells_length   exactly n * n
+ *   first          a work area; receives what the rounds start from
+ *   first_length   at least n * n
+ *   second         a work area
+ *   second_length  at least n * n
+ *   answer         receives the answer
+ *   answer_length  exactly CHACHAQOM_ANSWER_LENGTH
+ *
+ * Checked in this order, the first that fails is answered:
+ *   2   answer_length is wrong             nothing at all is written, not even the answer
+ *   1   n is 0 or over 64                  both work areas stay as they were
+ *   2   another length is wrong            both work areas stay as they were
+ *   21  a region cannot equal itself       names the least such place i
+ *   22  a pair contradicts itself          names i, j: the first empty cell in row order, i < j
+ * 21 and 22 leave the first n * n bytes of both work areas 0. Each refusal is that of
+ * chachaqom_refine, in answer and areas.
+ *
+ * Acceptance (0) leaves the prepared matrix, row by row as cells, in the first n * n bytes of first,
+ * and the whole of second as it was. The rounds start from CHACHAQOM_FIRST_AREA; a call of
+ * chachaqom_run from there is never refused with 1, 2 or 25.
+ *
+ * Bytes of a work area from n * n on are never written. The answer's count is 0.
+ *
+ * Returns the answer's number.
+ */
+uint32_t chachaqom_prepare(size_t n, const uint8_t *cells, size_t cells_length,
+                           uint8_t *first, size_t first_length,
+                           uint8_t *second, size_t second_length,
+                           uint8_t *answer, size_t answer_length);
+
+/*
+ * Makes up to so many rounds from the network in one of the work areas, the round that confirms that
+ * nothing changes any more included. No rounds at all may be asked for: then only the checks are made.
+ *
+ *     number = chachaqom_prepare(n, cells, n * n, first, n * n, second, n * n, answer, sizeof answer);
+ *     if (number == CHACHAQOM_ACCEPTED)
+ *         do {
+ *             number = chachaqom_run(n, area, 1, first, n * n, second, n * n, answer, sizeof answer);
+ *             count += chachaqom_number(answer, CHACHAQOM_ANSWER_COUNT);
+ *             if (number == CHACHAQOM_UNFINISHED)
+ *                 area = chachaqom_number(answer, CHACHAQOM_ANSWER_PLACES);
+ *         } while (number == CHACHAQOM_UNFINISHED);   // area is 1 and count 0 at the start
+ *
+ * However the rounds are shared out over calls, calls with none included, the last number, its places,
+ * the counts added up and both areas are those of chachaqom_refine. Calls with a round or more each
+ * finish: at most 7 * n * (n - 1) / 2 + 1 of them.
+ *
+ *   n              the number of regions, 1 to 64
+ *   area           which of the work areas holds the network: CHACHAQOM_FIRST_AREA or
+ *                  CHACHAQOM_SECOND_AREA. After 24, the one that its answer names
+ *   rounds         the most rounds to make; any number
+ *   first          a work area, number 1
+ *   first_length   at least n * n
+ *   second         a work area, number 2
+ *   second_length  at least n * n
+ *   answer         receives the answer
+ *   answer_length  exactly CHACHAQOM_ANSWER_LENGTH
+ *
+ * Checked in this order, the first that fails is answered:
+ *   2   answer_length is wrong             nothing at all is written, not even the answer
+ *   1   n is 0 or over 64                  both work areas stay as they were
+ *   1   area is neither 1 nor 2            both work areas stay as they were
+ *   2   another length is wrong            both work areas stay as they were
+ *   25  the network has an empty set, a    both work areas stay as they were
+ *       diagonal other than equal, or a
+ *       pair that is not converse
+ *   23  a triple leaves nothing            names i, k, j, as chachaqom_refine does; the first n * n
+ *                                          bytes of both work areas are 0
+ *   24  the rounds are used up             names the area that holds the last round's network in its
+ *                                          first n * n bytes; the other one holds the network of the
+ *                                          round before it there. Where no round was asked for, both
+ *                                          stay as they were and the area given is named
+ * 24 is answered for no rounds also where the network is finished. A call from the area that 24
+ * names, with both areas as they were left, is never refused with 1, 2 or 25.
+ *
+ * Acceptance (0) leaves the network, of which all holds that chachaqom_refine promises, in the first
+ * n * n bytes of both work areas, and names no area.
+ *
+ * Bytes of a work area from n * n on are never written. The answer's count is the number of rounds of
+ * this call that changed something; for 23 the number of the refusing round in this call, from 1; for
+ * 24 the rounds that were made, each of which changed something; else 0.
+ *
+ * Returns the answer's number.
+ */
+uint32_t chachaqom_run(size_t n, size_t area, size_t rounds,
+                       uint8_t *first, size_t first_length,
+                       uint8_t *second, size_t second_length,
+                       uint8_t *answer, size_t answer_length);
 
 /*
  * Reads a scene. A cell starts at CHACHAQOM_UNIVERSAL; a statement of A towards B is intersected

@@ -136,7 +136,7 @@ static inline const char *chachaqom_read_sentence(uint32_t number)
     }
 }
 
-/* What an author is told of an answer of chachaqom_refine. */
+/* What an author is told of an answer of chachaqom_refine, chachaqom_prepare or chachaqom_run. */
 static inline const char *chachaqom_refine_sentence(uint32_t number)
 {
     switch (number) {
@@ -150,6 +150,10 @@ static inline const char *chachaqom_refine_sentence(uint32_t number)
         return "What is said of X and Y, both ways, cannot be.";
     case CHACHAQOM_PATH: /* the answer names i, k, j */
         return "What is said of X and Z cannot be, seen through Y.";
+    case CHACHAQOM_UNFINISHED: /* the answer names an area */
+        return "The statements are still being checked.";
+    case CHACHAQOM_UNPREPARED: /* the host's mistake: it ran rounds from something else */
+        return "The statements cannot be checked from here; start again.";
     default: /* 2: a length is wrong, which is the host's mistake */
         return "The statements were not checked.";
     }

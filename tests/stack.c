@@ -26,12 +26,26 @@ static uint8_t identifiers[CHACHAQOM_IDENTIFIERS_LENGTH], cells[CHACHAQOM_CELLS_
 static uint8_t first[CHACHAQOM_CELLS_LENGTH], second[CHACHAQOM_CELLS_LENGTH];
 static uint8_t scene[CHACHAQOM_SCENE_LIMIT + 1], buffer[CHACHAQOM_SCENE_LIMIT];
 static uint8_t answer[CHACHAQOM_ANSWER_LENGTH];
-static size_t n, scene_length;
+static size_t n, area, rounds, scene_length;
 
 static void refine(void)
 {
     chachaqom_refine(n, cells, n * n, first, sizeof first, second, sizeof second,
                      answer, sizeof answer);
+}
+
+static void prepare(void)
+{
+    chachaqom_prepare(n, cells, n * n, first, sizeof first, second, sizeof second,
+                      answer, sizeof answer);
+}
+
+/* The network is laid anew each time: a run writes both areas, and each call is measured twice. */
+static void run(void)
+{
+    memcpy(area == CHACHAQOM_SECOND_AREA ? second : first, cells, sizeof cells);
+    chachaqom_run(n, area, rounds, first, sizeof first, second, sizeof second,
+                  answer, sizeof answer);
 }
 
 static void read_scene(void)
@@ -110,6 +124,14 @@ static void state_chain(int closed)
         cells[(n - 1) * n] = CHACHAQOM_INSIDE;
 }
 
+/* What the rounds start from, in the cells. */
+static void prepare_cells(int closed)
+{
+    state_chain(closed);
+    prepare();
+    memcpy(cells, first, sizeof cells);
+}
+
 static size_t put_number(uint8_t *bytes, size_t place, size_t number)
 {
     size_t k;
@@ -180,6 +202,39 @@ static void measure_refine(void)
     measure(refine, CHACHAQOM_OUT_OF_RANGE);
 }
 
+static void measure_prepare(void)
+{
+    state_chain(0);
+    measure(prepare, CHACHAQOM_ACCEPTED);
+    cells[n * n - 1] = CHACHAQOM_DISJOINT;
+    measure(prepare, CHACHAQOM_NODE);
+    state_all(CHACHAQOM_UNIVERSAL);
+    cells[n * n - n - 1] = CHACHAQOM_EMPTY;
+    measure(prepare, CHACHAQOM_ARC);
+    n = 0;
+    measure(prepare, CHACHAQOM_OUT_OF_RANGE);
+}
+
+static void measure_run(void)
+{
+    prepare_cells(0);
+    area = CHACHAQOM_FIRST_AREA;
+    rounds = SIZE_MAX;
+    measure(run, CHACHAQOM_ACCEPTED);
+    rounds = 5;
+    measure(run, CHACHAQOM_UNFINISHED);
+    area = CHACHAQOM_SECOND_AREA;
+    rounds = 0;
+    measure(run, CHACHAQOM_UNFINISHED);
+    prepare_cells(1);
+    rounds = SIZE_MAX;
+    measure(run, CHACHAQOM_PATH);
+    cells[n * n - 1] = CHACHAQOM_UNIVERSAL;
+    measure(run, CHACHAQOM_UNPREPARED);
+    area = 0;
+    measure(run, CHACHAQOM_OUT_OF_RANGE);
+}
+
 static void measure_read(void)
 {
     build_scene(CHACHAQOM_KIND_END);
@@ -225,6 +280,8 @@ static const struct {
     size_t stated;
 } calls[] = {
     { "chachaqom_refine", measure_refine, CHACHAQOM_REFINE_STACK },
+    { "chachaqom_prepare", measure_prepare, CHACHAQOM_PREPARE_STACK },
+    { "chachaqom_run", measure_run, CHACHAQOM_RUN_STACK },
     { "chachaqom_read", measure_read, CHACHAQOM_READ_STACK },
     { "chachaqom_write", measure_write, CHACHAQOM_WRITE_STACK }
 };

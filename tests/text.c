@@ -105,7 +105,8 @@ static void check_sentences(void)
 {
     static const struct told reading[] = { { 0, 0 }, { 1, 0 }, { 3, 0 }, { 4, 0 }, { 5, 0 }, { 6, 0 },
                                            { 7, 1 }, { 8, 0 }, { 9, 0 }, { 10, 0 }, { 11, 0 } };
-    static const struct told refining[] = { { 0, 0 }, { 1, 0 }, { 21, 1 }, { 22, 2 }, { 23, 3 } };
+    static const struct told refining[] = { { 0, 0 }, { 1, 0 }, { 21, 1 }, { 22, 2 }, { 23, 3 },
+                                            { 24, 0 }, { 25, 0 } };
     static const struct told writing[] = { { 0, 0 }, { 1, 0 }, { 3, 0 }, { 6, 1 }, { 7, 1 },
                                            { 10, 2 } };
 

@@ -1,8 +1,8 @@
 /*
  * compare.c: compares the library's calls with the second program on random, damaged and hostile
  * inputs, byte by byte: what is returned, the answer, every lent area with the bytes before and
- * behind it, and the inputs, which no call may write. What the library reads is written, and what
- * it writes is read back.
+ * behind it, and the inputs, which no call may write. Rounds are shared out over calls at random and
+ * held against the whole. What the library reads is written, and what it writes is read back.
  *
  *     compare [SEED [COUNT [FIRST]]]   compares inputs FIRST .. FIRST + COUNT - 1 of the seed
  *     compare faults [SEED]            plants each fault of the second program and requires that
@@ -26,7 +26,8 @@ enum {
 
 #define DEFAULT_SEED UINT64_C(20231115)
 
-static struct call *const calls[] = { &refine_call, &read_call, &write_call };
+static struct call *const calls[] = { &refine_call, &prepare_call, &run_call, &read_call,
+                                      &write_call };
 
 int quiet;
 uint64_t current_seed, current_input;

@@ -17,7 +17,7 @@
 
 /* ---- the calls ---- */
 
-enum { NUMBERS = CHACHAQOM_PATH + 1 };
+enum { NUMBERS = CHACHAQOM_UNPREPARED + 1 };
 
 struct call {
     const char *name;
@@ -28,7 +28,16 @@ struct call {
     uint64_t seen[NUMBERS];  /* how often each number was answered */
 };
 
-extern struct call refine_call, read_call, write_call;
+extern struct call refine_call, prepare_call, run_call, read_call, write_call;
+
+/* A call that takes a matrix and two work areas, of either program. */
+typedef uint32_t matrix_call(size_t n, const uint8_t *cells, size_t cells_length,
+                             uint8_t *first, size_t first_length,
+                             uint8_t *second, size_t second_length,
+                             uint8_t *answer, size_t answer_length);
+
+/* Compares one on a matrix of any style; counts the most rounds that it answered (refine.c). */
+int compare_on_matrix(struct call *call, matrix_call *library, matrix_call *second_program);
 
 /* Writes what was read of a scene of so many bytes into as many, and compares (write.c). */
 int compare_written_again(size_t n, const uint8_t *identifiers, const uint8_t *cells,
@@ -96,6 +105,9 @@ state_style state_sparsely, state_rectangles, state_chain, state_anything, state
 
 /* A set of one to four relations, seldom an empty one. */
 uint8_t few_relations(void);
+
+/* Cells of any style, for n regions. */
+void state_any_style(uint8_t *cells, size_t n);
 
 /* A number of regions, mostly a small one. */
 size_t random_size(void);

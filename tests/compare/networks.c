@@ -198,3 +198,14 @@ size_t random_size(void)
         return 13 + below(20);
     return 1 + below(12);
 }
+
+void state_any_style(uint8_t *cells, size_t n)
+{
+    static state_style *const styles[] = {
+        state_sparsely, state_sparsely, state_rectangles, state_rectangles, state_chain,
+        state_anything, state_refined, state_blemishes, state_slow_clash
+    };
+
+    memset(cells, CHACHAQOM_UNIVERSAL, n * n);
+    styles[below(COUNT_OF(styles))](cells, n);
+}

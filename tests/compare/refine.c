@@ -3,33 +3,23 @@
 
 static struct lent lent_cells, lent_first, lent_second, lent_answer;
 
-static uint32_t refine_by(int program, size_t n)
+static uint32_t made_by(matrix_call *call, int program, size_t n)
 {
-    return (program == LIBRARY ? chachaqom_refine : second_refine)(
-        n, lent_to(&lent_cells, program), lent_cells.length,
-        lent_to(&lent_first, program), lent_first.length,
-        lent_to(&lent_second, program), lent_second.length,
-        lent_to(&lent_answer, program), lent_answer.length);
+    return call(n, lent_to(&lent_cells, program), lent_cells.length,
+                lent_to(&lent_first, program), lent_first.length,
+                lent_to(&lent_second, program), lent_second.length,
+                lent_to(&lent_answer, program), lent_answer.length);
 }
 
-static int compare_lent(size_t n)
-{
-    uint32_t library = refine_by(LIBRARY, n), other = refine_by(SECOND_PROGRAM, n);
-
-    return returned_alike(&refine_call, library, other)
-           && area_alike(&lent_answer) && area_alike(&lent_first) && area_alike(&lent_second)
-           && input_alike(&lent_cells);
-}
-
-static void count_rounds(void)
+static void count_rounds(struct call *call)
 {
     uint64_t rounds;
 
     if (lent_answer.length != CHACHAQOM_ANSWER_LENGTH)
         return;
     rounds = answered(&lent_answer, CHACHAQOM_ANSWER_COUNT);
-    if (rounds > refine_call.count)
-        refine_call.count = rounds;
+    if (rounds > call->count)
+        call->count = rounds;
 }
 
 /* How long the cells, both work areas and the answer are, for n regions. */
@@ -41,17 +31,14 @@ static void choose_lengths(size_t n, size_t *lengths)
     lengths[3] = CHACHAQOM_ANSWER_LENGTH;
 }
 
-static int compare_matrix(void)
+int compare_on_matrix(struct call *call, matrix_call *library, matrix_call *second_program)
 {
-    static state_style *const styles[] = {
-        state_sparsely, state_sparsely, state_rectangles, state_rectangles, state_chain,
-        state_anything, state_refined, state_blemishes, state_slow_clash
-    };
     static uint8_t cells[ROOM];
     size_t n = random_size(), size = n, lengths[4];
+    uint32_t number, other;
 
     memset(cells, CHACHAQOM_UNIVERSAL, sizeof cells);
-    styles[below(COUNT_OF(styles))](cells, n);
+    state_any_style(cells, n);
     choose_lengths(n, lengths);
     if (once_in(12))
         size = once_in(8) ? CHACHAQOM_REGIONS_LIMIT + 1 : hostile_size(n);
@@ -66,15 +53,24 @@ static int compare_matrix(void)
     lend(&lent_first, "first", lengths[1]);
     lend(&lent_second, "second", lengths[2]);
     lend(&lent_answer, "answer", lengths[3]);
-    if (!compare_lent(size))
+    number = made_by(library, LIBRARY, size);
+    other = made_by(second_program, SECOND_PROGRAM, size);
+    if (!(returned_alike(call, number, other)
+          && area_alike(&lent_answer) && area_alike(&lent_first) && area_alike(&lent_second)
+          && input_alike(&lent_cells)))
         return 0;
-    count_rounds();
+    count_rounds(call);
     return 1;
+}
+
+static int compare_refined(void)
+{
+    return compare_on_matrix(&refine_call, chachaqom_refine, second_refine);
 }
 
 struct call refine_call = {
     .name = "refine",
-    .compare = compare_matrix,
+    .compare = compare_refined,
     .answerable = { 0, 1, 2, 21, 22, 23, -1 },
     .counted = "rounds at most"
 };

@@ -70,6 +70,17 @@ const uint8_t *lend_input(struct guarded *area, const uint8_t *bytes, size_t len
     return start;
 }
 
+uint8_t *lend_holding(struct guarded *area, const uint8_t *bytes, size_t given, size_t length,
+                      int position)
+{
+    uint8_t *start = lend(area, length, position);
+
+    if (given > 0)
+        memcpy(area->start, bytes, given);
+    memcpy(area->expected, area->room, ROOM);
+    return start;
+}
+
 void expect_bytes(struct guarded *area, const uint8_t *bytes, size_t length)
 {
     memcpy(area->expected + (area->start - area->room), bytes, length);

@@ -20,6 +20,8 @@
 /* ---- the calls ---- */
 
 void check_refine(void);
+void check_prepare(void);
+void check_run(void);
 void check_read(void);
 void check_write(void);
 
@@ -51,6 +53,10 @@ uint8_t *lend(struct guarded *area, size_t length, int position);
 
 /* Lends an input: at the end in pages that may only be read, at the start to be compared later. */
 const uint8_t *lend_input(struct guarded *area, const uint8_t *bytes, size_t length, int position);
+
+/* Lends so many bytes to be worked in, of which the first are given. */
+uint8_t *lend_holding(struct guarded *area, const uint8_t *bytes, size_t given, size_t length,
+                      int position);
 
 /* Says what the first bytes of the array must hold after the call. */
 void expect_bytes(struct guarded *area, const uint8_t *bytes, size_t length);

@@ -1,27 +1,7 @@
 /* refine.c: checks of chachaqom_refine: the twelve cases, sizes, chains, order, lengths. */
-#include "host.h"
+#include "matrices.h"
 
 static struct guarded cells_area, first_area, second_area;
-
-struct lengths {
-    size_t cells, first, second, answer;
-};
-
-static struct lengths lengths_of(size_t cells, size_t first, size_t second, size_t answer)
-{
-    struct lengths lengths;
-
-    lengths.cells = cells;
-    lengths.first = first;
-    lengths.second = second;
-    lengths.answer = answer;
-    return lengths;
-}
-
-static struct lengths exact(size_t n)
-{
-    return lengths_of(n * n, n * n, n * n, CHACHAQOM_ANSWER_LENGTH);
-}
 
 static void expect_work_areas(struct outcome outcome, const uint8_t *network, size_t length)
 {
@@ -74,61 +54,6 @@ static void refine_with_tails(size_t n, const uint8_t *cells, struct outcome out
 }
 
 /* ---- the cases of the rules ---- */
-
-struct entry {
-    uint8_t row, column, set; /* a set of 0 ends the list */
-};
-
-struct matrix_case {
-    const char *name;
-    size_t n;
-    struct entry stated[6]; /* cells not given are 255 */
-    uint32_t number, places[3], count;
-    uint8_t network[16]; /* on acceptance */
-};
-
-static const struct matrix_case twelve_cases[] = {
-    { "case 1", 1, { { 0, 0, 255 } }, 0, { 0, 0, 0 }, 0, { 4 } },
-    { "case 2", 1, { { 0, 0, 251 } }, 21, { 0, 0, 0 }, 0, { 0 } },
-    { "case 3", 2, { { 0, 1, 8 } }, 0, { 0, 0, 0 }, 0, { 4, 8, 32, 4 } },
-    { "case 4", 2, { { 0, 1, 8 }, { 1, 0, 8 } }, 22, { 0, 1, 0 }, 0, { 0 } },
-    { "case 5", 2, { { 0, 1, 24 }, { 1, 0, 33 } }, 0, { 0, 0, 0 }, 0, { 4, 8, 32, 4 } },
-    { "case 6", 3, { { 0, 1, 8 }, { 1, 2, 8 } }, 0, { 0, 0, 0 }, 1,
-      { 4, 8, 8, 32, 4, 8, 32, 32, 4 } },
-    { "case 7", 3, { { 0, 1, 32 }, { 1, 2, 32 }, { 0, 2, 2 } }, 23, { 0, 2, 1 }, 1, { 0 } },
-    { "case 8", 4, { { 0, 1, 8 }, { 1, 2, 8 }, { 2, 3, 8 } }, 0, { 0, 0, 0 }, 2,
-      { 4, 8, 8, 8, 32, 4, 8, 8, 32, 32, 4, 8, 32, 32, 32, 4 } },
-    { "case 9", 3, { { 0, 1, 2 }, { 1, 2, 2 } }, 0, { 0, 0, 0 }, 1,
-      { 4, 2, 215, 2, 4, 2, 215, 2, 4 } },
-    { "case 10", 3, { { 0, 1, 2 }, { 1, 2, 32 } }, 0, { 0, 0, 0 }, 1,
-      { 4, 2, 1, 2, 4, 32, 1, 8, 4 } },
-    { "case 11", 3, { { 0, 1, 255 } }, 0, { 0, 0, 0 }, 0,
-      { 4, 255, 255, 255, 4, 255, 255, 255, 4 } },
-};
-
-/* The paper's examples, its regions A to D at places 0 to 3, and a set that runs out in two steps. */
-static const struct matrix_case program_cases[] = {
-    { "example 12", 4, { { 0, 1, 8 }, { 1, 2, 8 }, { 2, 3, 8 } }, 0, { 0, 0, 0 }, 2,
-      { 4, 8, 8, 8, 32, 4, 8, 8, 32, 32, 4, 8, 32, 32, 32, 4 } },
-    { "example 13", 4, { { 0, 1, 32 }, { 1, 2, 2 }, { 0, 3, 1 }, { 3, 2, 128 } },
-      0, { 0, 0, 0 }, 1,
-      { 4, 32, 128, 1, 8, 4, 2, 1, 128, 2, 4, 128, 1, 1, 128, 4 } },
-    { "example 14", 4, { { 0, 3, 128 }, { 1, 3, 128 }, { 2, 1, 8 }, { 2, 0, 1 } },
-      0, { 0, 0, 0 }, 1,
-      { 4, 155, 1, 128, 227, 4, 32, 128, 1, 8, 4, 155, 128, 128, 227, 4 } },
-    { "example 15", 3, { { 1, 2, 155 }, { 1, 0, 64 }, { 0, 2, 2 } }, 0, { 0, 0, 0 }, 1,
-      { 4, 16, 2, 64, 4, 130, 2, 130, 4 } },
-    { "sets that run out through two regions", 4,
-      { { 0, 2, 64 }, { 0, 3, 2 }, { 1, 2, 2 }, { 1, 3, 16 }, { 2, 3, 129 } },
-      23, { 2, 1, 3 }, 1, { 0 } },
-};
-
-static void state(uint8_t *cells, size_t n, const struct entry *stated)
-{
-    memset(cells, CHACHAQOM_UNIVERSAL, n * n);
-    for (; stated->set != 0; stated++)
-        cells[stated->row * n + stated->column] = stated->set;
-}
 
 static void run_matrix_cases(const struct matrix_case *cases, size_t count)
 {
@@ -188,24 +113,15 @@ static void run_largest_matrix(void)
 }
 
 /*
- * 64 regions, each inside the next: six rounds, and all pairs are known. With the last inside the
- * first, round 5 has 0 inside 32 by way of 16 and containing it by way of 48.
+ * 64 regions in a chain: six rounds, and all pairs are known. With the last inside the first, round 5
+ * has 0 inside 32 by way of 16 and containing it by way of 48.
  */
 static void run_longest_chain(void)
 {
     static uint8_t cells[CHACHAQOM_CELLS_LENGTH], network[CHACHAQOM_CELLS_LENGTH];
     const size_t n = CHACHAQOM_REGIONS_LIMIT;
-    size_t i, j;
 
-    memset(cells, CHACHAQOM_UNIVERSAL, sizeof cells);
-    for (i = 0; i < n; i++)
-        for (j = 0; j < n; j++) {
-            if (j == i + 1)
-                cells[i * n + j] = CHACHAQOM_INSIDE;
-            network[i * n + j] = i == j  ? CHACHAQOM_EQUAL
-                                 : i < j ? CHACHAQOM_INSIDE
-                                         : CHACHAQOM_CONTAINS;
-        }
+    state_chain(cells, network, n);
     checking = "64 regions in a chain";
     refine_with_tails(n, cells, outcome_of(CHACHAQOM_ACCEPTED, 0, 0, 0, 6), network);
     checking = "64 regions in a chain that closes";
@@ -256,11 +172,11 @@ static void run_matrix_lengths(void)
 
 void check_refine(void)
 {
-    run_matrix_cases(twelve_cases, COUNT_OF(twelve_cases));
+    run_matrix_cases(twelve_cases, twelve_case_count);
     run_sizes_out_of_range();
     end_group("the twelve cases");
     run_largest_matrix();
-    run_matrix_cases(program_cases, COUNT_OF(program_cases));
+    run_matrix_cases(program_cases, program_case_count);
     end_group("cases run by a program");
     run_longest_chain();
     run_order_of_rules();

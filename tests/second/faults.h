@@ -20,6 +20,40 @@
     FAULT(LENGTH_BEFORE_RANGE, "judging lengths before n") \
     FAULT(WORK_AREA_OF_EXACT_LENGTH, "asking for work areas of exactly the cells' length")
 
+#define FAULTS_OF_PREPARE(FAULT) \
+    FAULT(PREPARED_IN_BOTH_AREAS, "preparing: the matrix laid into both areas") \
+    FAULT(PREPARED_WITHOUT_THE_ARC_RULE, "preparing: the arc rule looked at and not applied") \
+    FAULT(PREPARING_ROUND_ONE_TOO, "preparing: round 1 made too") \
+    FAULT(SECOND_AREA_UNCLEARED, "preparing: the second area uncleared by a refusal") \
+    FAULT(AREAS_LEFT_BY_NODE, "preparing: both areas left as they were by 21") \
+    FAULT(PREPARING_LENGTH_BEFORE_RANGE, "preparing: judging lengths before n") \
+    FAULT(PREPARING_WITHOUT_THE_SECOND, "preparing: not asking for a second area") \
+    FAULT(PREPARING_REGIONS_TAKEN_AS_A_BYTE, "preparing: taking n as a byte")
+
+#define FAULTS_OF_RUN(FAULT) \
+    FAULT(CONFIRMING_ROUND_FREE, "running: the confirming round not counted against the rounds") \
+    FAULT(USED_UP_COUNT_ONE_OFF, "running: the count of 24 one off") \
+    FAULT(UNFINISHED_COUNT_FROM_NONE, "running: no count with 24") \
+    FAULT(WRONG_AREA_AFTER_AN_ODD_NUMBER, "running: the area given named after an odd number") \
+    FAULT(ALWAYS_THE_FIRST_AREA, "running: what is in the first area taken in every call") \
+    FAULT(OTHER_AREA_OVERWRITTEN_BY_25, "running: the other area overwritten before 25") \
+    FAULT(AREAS_CLEARED_BY_25, "running: both areas cleared by 25") \
+    FAULT(CONVERSE_UNTESTED, "running: 25 without the converse test") \
+    FAULT(DIAGONAL_UNTESTED, "running: 25 without the test of the diagonal") \
+    FAULT(EMPTY_SET_UNTESTED, "running: 25 without the test for empty sets") \
+    FAULT(UNPREPARED_NAMES_THE_CELL, "running: a cell named with 25") \
+    FAULT(NO_ROUND_NO_CHECK, "running: no check where no round is asked for") \
+    FAULT(NO_ROUND_ACCEPTED, "running: no round of a finished network accepted") \
+    FAULT(ROUND_BEFORE_LOST, "running: the last round's network in both areas after 24") \
+    FAULT(UNFINISHED_AREAS_CLEARED, "running: the other area cleared by 24") \
+    FAULT(AREA_NAMED_WITH_ACCEPTANCE, "running: an area named with 0") \
+    FAULT(ACCEPTED_IN_ONE_AREA, "running: an accepted network in one area alone") \
+    FAULT(AREA_ZERO_IS_THE_FIRST, "running: 0 taken for the first area") \
+    FAULT(AREA_TAKEN_AS_A_BYTE, "running: taking the area as a byte") \
+    FAULT(LENGTH_BEFORE_AREA, "running: judging lengths before the area") \
+    FAULT(ROUNDS_TAKEN_AS_32_BITS, "running: taking the rounds as 32 bits") \
+    FAULT(RUN_TAIL_BYTE_CLEARED, "running: clearing the byte behind the cells too")
+
 #define FAULTS_OF_READ(FAULT) \
     FAULT(SCENE_LIMIT_OFF_BY_ONE, "limit of the scene's length off by one") \
     FAULT(TOO_MANY_BEFORE_TWICE, "refusing with 8 before 7") \
@@ -62,6 +96,8 @@
 /* All of them; a new call adds its list here. */
 #define SECOND_FAULT_LIST(FAULT) \
     FAULTS_OF_REFINE(FAULT) \
+    FAULTS_OF_PREPARE(FAULT) \
+    FAULTS_OF_RUN(FAULT) \
     FAULTS_OF_READ(FAULT) \
     FAULTS_OF_WRITE(FAULT)
 

@@ -35,6 +35,23 @@ int out_of_range(size_t n);
 uint8_t converse(uint8_t set);
 uint8_t compose(uint8_t a, uint8_t b);
 
+/* A matrix of relation sets (refine.c). */
+struct matrix {
+    size_t n;
+    uint8_t cell[REGIONS][REGIONS];
+};
+
+void take_matrix(struct matrix *m, size_t n, const uint8_t *cells);
+void lay_matrix(const struct matrix *m, uint8_t *area);
+
+/* The node rule and the arc rule. */
+struct outcome make_ready(struct matrix *m);
+
+/* A round: what it makes of a matrix, and what it comes to: 23 as the given round, or 0. */
+struct outcome make_round(const struct matrix *old, struct matrix *next, size_t round);
+
+int same(const struct matrix *a, const struct matrix *b);
+
 /* What a scene says: identifiers by place, and cells. */
 struct scene {
     size_t count;

@@ -1,10 +1,24 @@
 /* refine.c: the second program's refinement, rule by rule and round by round. */
 #include "inside.h"
 
-struct matrix {
-    size_t n;
-    uint8_t cell[REGIONS][REGIONS];
-};
+void take_matrix(struct matrix *m, size_t n, const uint8_t *cells)
+{
+    size_t i, j;
+
+    m->n = n;
+    for (i = 0; i < n; i++)
+        for (j = 0; j < n; j++)
+            m->cell[i][j] = cells[i * n + j];
+}
+
+void lay_matrix(const struct matrix *m, uint8_t *area)
+{
+    size_t i, j;
+
+    for (i = 0; i < m->n; i++)
+        for (j = 0; j < m->n; j++)
+            area[i * m->n + j] = m->cell[i][j];
+}
 
 static struct outcome node_rule(struct matrix *m)
 {
@@ -40,7 +54,14 @@ static struct outcome arc_rule(struct matrix *m)
     return accepted(0);
 }
 
-static void make_round(const struct matrix *old, struct matrix *next)
+struct outcome make_ready(struct matrix *m)
+{
+    struct outcome outcome = node_rule(m);
+
+    return outcome.number == 0 ? arc_rule(m) : outcome;
+}
+
+static void compose_all(const struct matrix *old, struct matrix *next)
 {
     const struct matrix *from = planted(SECOND_FAULT_UPDATING_WITHIN_A_ROUND) ? next : old;
     size_t i, j, k;
@@ -72,7 +93,19 @@ static struct outcome path_refusal(const struct matrix *old, size_t i, size_t j,
     return refused(23, i, k, j, round);
 }
 
-static int same(const struct matrix *a, const struct matrix *b)
+struct outcome make_round(const struct matrix *old, struct matrix *next, size_t round)
+{
+    size_t i, j;
+
+    compose_all(old, next);
+    for (i = 0; i < next->n; i++)
+        for (j = 0; j < next->n; j++)
+            if (next->cell[i][j] == 0)
+                return path_refusal(old, i, j, round);
+    return accepted(0);
+}
+
+int same(const struct matrix *a, const struct matrix *b)
 {
     size_t i, j;
 
@@ -85,16 +118,14 @@ static int same(const struct matrix *a, const struct matrix *b)
 
 static struct outcome rounds(struct matrix *m)
 {
-    size_t round, i, j;
+    size_t round;
 
     for (round = 1;; round++) {
         struct matrix old = *m;
+        struct outcome outcome = make_round(&old, m, round);
 
-        make_round(&old, m);
-        for (i = 0; i < m->n; i++)
-            for (j = 0; j < m->n; j++)
-                if (m->cell[i][j] == 0)
-                    return path_refusal(&old, i, j, round);
+        if (outcome.number != 0)
+            return outcome;
         if (same(&old, m))
             return accepted(round - !planted(SECOND_FAULT_COUNTING_THE_CONFIRMING_ROUND));
         if (planted(SECOND_FAULT_STOPPING_AFTER_ROUND_ONE))
@@ -104,13 +135,9 @@ static struct outcome rounds(struct matrix *m)
 
 static struct outcome refine_matrix(struct matrix *m)
 {
-    struct outcome outcome = node_rule(m);
+    struct outcome outcome = make_ready(m);
 
-    if (outcome.number == 0)
-        outcome = arc_rule(m);
-    if (outcome.number == 0)
-        outcome = rounds(m);
-    return outcome;
+    return outcome.number == 0 ? rounds(m) : outcome;
 }
 
 static int matrix_lengths_wrong(size_t n, size_t cells, size_t first, size_t second)
@@ -146,7 +173,6 @@ uint32_t second_refine(size_t n, const uint8_t *cells, size_t cells_length,
 {
     struct matrix m;
     struct outcome outcome;
-    size_t i, j;
 
     if (answer_length != 20)
         return 2;
@@ -159,10 +185,7 @@ uint32_t second_refine(size_t n, const uint8_t *cells, size_t cells_length,
         return put_answer(answer, refused(1, 0, 0, 0, 0));
     if (matrix_lengths_wrong(n, cells_length, first_length, second_length))
         return put_answer(answer, refused(2, 0, 0, 0, 0));
-    m.n = n;
-    for (i = 0; i < n; i++)
-        for (j = 0; j < n; j++)
-            m.cell[i][j] = cells[i * n + j];
+    take_matrix(&m, n, cells);
     outcome = refine_matrix(&m);
     leave(&m, outcome.number, first, first_length, second);
     return put_answer(answer, outcome);

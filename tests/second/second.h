@@ -25,6 +25,16 @@ uint32_t second_refine(size_t n, const uint8_t *cells, size_t cells_length,
                        uint8_t *second, size_t second_length,
                        uint8_t *answer, size_t answer_length);
 
+uint32_t second_prepare(size_t n, const uint8_t *cells, size_t cells_length,
+                        uint8_t *first, size_t first_length,
+                        uint8_t *second, size_t second_length,
+                        uint8_t *answer, size_t answer_length);
+
+uint32_t second_run(size_t n, size_t area, size_t rounds,
+                    uint8_t *first, size_t first_length,
+                    uint8_t *second, size_t second_length,
+                    uint8_t *answer, size_t answer_length);
+
 uint32_t second_read(const uint8_t *scene, size_t scene_length,
                      uint8_t *identifiers, size_t identifiers_length,
                      uint8_t *cells, size_t cells_length,
