@@ -1,8 +1,9 @@
 /*
  * editor.c: a small host, as an editor of scenes would have it. It reads the scene file that is its
- * argument and refines it. It prints the relations that are left between each two regions, or
- * tells the author in a sentence what is wrong and where. A scene that is accepted is saved where
- * a second file is named, as it was stated and in normal form: regions, then statements row by row.
+ * argument and refines it, a round at a time, with a line after each call, where an editor would
+ * redraw. It prints the relations that are left between each two regions, or tells the author in a
+ * sentence what is wrong and where. A scene that is accepted is saved where a second file is named,
+ * as it was stated and in normal form: regions, then statements row by row.
  *
  *     editor SCENE               shows the scene
  *     editor SCENE OUT           and saves it to OUT
@@ -34,8 +35,9 @@ static size_t scene_length;
 static size_t regions; /* n, once the scene is read */
 static uint8_t identifiers[CHACHAQOM_IDENTIFIERS_LENGTH];
 static uint8_t cells[CHACHAQOM_CELLS_LENGTH];
-static uint8_t network[CHACHAQOM_CELLS_LENGTH], work[CHACHAQOM_CELLS_LENGTH];
+static uint8_t first[CHACHAQOM_CELLS_LENGTH], second[CHACHAQOM_CELLS_LENGTH];
 static uint8_t answer[CHACHAQOM_ANSWER_LENGTH];
+static uint32_t rounds; /* that changed something, of all calls together */
 
 static uint32_t identifier(size_t place)
 {
@@ -44,9 +46,9 @@ static uint32_t identifier(size_t place)
 
 /* ---- a scene that is accepted ---- */
 
+/* Both areas hold the network then. */
 static void print_network(size_t n)
 {
-    uint32_t rounds = chachaqom_number(answer, CHACHAQOM_ANSWER_COUNT);
     size_t i, j;
 
     printf("Accepted: %zu region%s, %" PRIu32 " round%s.\n", n, n == 1 ? "" : "s", rounds,
@@ -55,7 +57,7 @@ static void print_network(size_t n)
         for (j = i + 1; j < n; j++) {
             char words[CHACHAQOM_TEXT_LENGTH];
 
-            chachaqom_set_in_words(network[i * n + j], words, sizeof words);
+            chachaqom_set_in_words(first[i * n + j], words, sizeof words);
             printf("%" PRIu32 " %s %" PRIu32 "\n", identifier(i), words, identifier(j));
         }
 }
@@ -112,6 +114,50 @@ static void print_refused_record(uint32_t number)
 
 /* ---- reading and refining ---- */
 
+/* How many pairs have one relation left: what an editor could draw. */
+static void print_known(size_t n, const uint8_t *network)
+{
+    size_t pairs = 0, known = 0, i, j;
+
+    for (i = 0; i < n; i++)
+        for (j = i + 1; j < n; j++) {
+            uint8_t set = network[i * n + j];
+
+            pairs++;
+            known += (set & (set - 1)) == 0;
+        }
+    printf("%zu of %zu pair%s known.\n", known, pairs, pairs == 1 ? "" : "s");
+}
+
+/* Makes round after round, each in a call of its own; the last call's number. */
+static uint32_t run_rounds(size_t n)
+{
+    uint32_t area = CHACHAQOM_FIRST_AREA, number;
+
+    for (;;) {
+        number = chachaqom_run(n, area, 1, first, sizeof first, second, sizeof second,
+                               answer, sizeof answer);
+        rounds += chachaqom_number(answer, CHACHAQOM_ANSWER_COUNT);
+        if (number != CHACHAQOM_UNFINISHED)
+            return number;
+        area = chachaqom_number(answer, CHACHAQOM_ANSWER_PLACES);
+        printf("Round %" PRIu32 ": ", rounds);
+        print_known(n, area == CHACHAQOM_SECOND_AREA ? second : first);
+    }
+}
+
+static uint32_t refine(size_t n)
+{
+    uint32_t number = chachaqom_prepare(n, cells, n * n, first, sizeof first, second, sizeof second,
+                                        answer, sizeof answer);
+
+    if (number != CHACHAQOM_ACCEPTED)
+        return number;
+    printf("Prepared: ");
+    print_known(n, first);
+    return run_rounds(n);
+}
+
 static int show_scene(void)
 {
     uint32_t number = chachaqom_read(scene, scene_length, identifiers, sizeof identifiers,
@@ -123,8 +169,7 @@ static int show_scene(void)
         return REFUSED;
     }
     regions = n;
-    number = chachaqom_refine(n, cells, n * n, network, sizeof network, work, sizeof work,
-                              answer, sizeof answer);
+    number = refine(n);
     if (number != CHACHAQOM_ACCEPTED) {
         printf("Refused. ");
         print_sentence(chachaqom_refine_sentence(number), named(0), named(1), named(2));
