@@ -8,7 +8,7 @@ use lib.Dec.{eqb}
 use lib.ListN.{length, replicate}
 use Rattle.lists.specs.BigEndian.{AllBytes, numbersBytes}
 use Rattle.answer.specs.Answer.{Answer, answer}
-use Rattle.answer.specs.Ending.{Ending, refused, answered}
+use Rattle.answer.specs.Ending.{refused, answered}
 use Rattle.answer.specs.Bytes.{Answers}
 use Rattle.answer.proofs.Exporting.{unfit-answers, unfit-leaves, fit-leaves, same-answers}
 use Rattle.network.specs.declared.Area.{Area}
@@ -19,7 +19,7 @@ use Rattle.network.specs.declared.Verdict.the-variants.{OutOfRange}
 use Rattle.network.specs.Numbers.{answerOf as verdictAnswer, answerOfStart}
 use Rattle.network.specs.Refined.{Refined}
 use Rattle.network.specs.Prepared.{Prepared}
-use Rattle.network.specs.Ran.{answeredFrom, leftBy, startsFrom, ranFrom, Ran}
+use Rattle.network.specs.Ran.{leftBy, startsFrom, ranFrom, Ran}
 use Rattle.filing.specs.Areas.{Areas, holding, areLent}
 use Rattle.scene.specs.declared.Reading.{Reading}
 use Rattle.scene.specs.declared.Reading.the-variants.{WrongLength}

@@ -1,6 +1,6 @@
 -- A call of `chachaqom_run` by the verdict behind it, and a chain of such calls by the chain behind it.
 use mathlib.Core.Path.{_≡_, refl, sym, ap, _∙_}
-use mathlib.Core.Bool.{true, false}
+use mathlib.Core.Bool.{false}
 use mathlib.Core.List.{List}
 use Prim.Native.Nat.{ℕ, _+_}
 use native.Mathlib.Omega.{arith}
@@ -12,7 +12,7 @@ use Rattle.lists.proofs.Splits.{by-test}
 use Rattle.region.specs.Lookup.{place}
 use Rattle.answer.specs.Answer.{Answer}
 use Rattle.answer.specs.Ending.{Ending}
-use Rattle.answer.specs.Bytes.{Answers, leftWith}
+use Rattle.answer.specs.Bytes.{leftWith}
 use Rattle.refinement.proofs.Limits.{by-ran}
 use Rattle.refinement.proofs.Sharing.{RoundsEnd, at-network, at-triple, at-last, rounds-ended}
 use Rattle.network.specs.declared.Area.{Area}

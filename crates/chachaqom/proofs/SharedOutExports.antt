@@ -12,11 +12,10 @@ use denote.Triple.Clauses.{AtExit}
 use lib.ListN.{length}
 use Rattle.lists.specs.BigEndian.{numberAt}
 use Rattle.answer.specs.Answer.{Answer, answer}
-use Rattle.answer.specs.Ending.{Ending, answered}
+use Rattle.answer.specs.Ending.{answered}
 use Rattle.refinement.specs.Refine.{mostRounds, refined}
 use Rattle.refinement.specs.Run.{total, EachSome, readied}
 use Rattle.refinement.proofs.Readied.{readied-accepts, readied-ending}
-use Rattle.network.specs.declared.Area.{Area}
 use Rattle.network.specs.declared.Area.the-variants.{First}
 use Rattle.network.specs.declared.Contradiction.the-variants.{Region, Pair, Triple}
 use Rattle.network.specs.declared.Start.the-variants.{Ready}

@@ -1,5 +1,5 @@
--- Every number of an answer has 32 bits, so the 20 bytes lose nothing: places are below 64 or at most 32,768, and counts at most
--- 28,673.
+-- Every number of an answer has 32 bits, so the 20 bytes lose nothing: places are below 64 or at most 32,768, and so are counts, however
+-- many rounds a call may make.
 use mathlib.Core.Path.{_≡_}
 use mathlib.Core.Bool.{Bool, true, false, not, cond, _||_}
 use mathlib.Core.List.{List}
@@ -20,7 +20,6 @@ use Rattle.matrix.proofs.CellLaws.{row-lt, column-lt, range-holds}
 use Rattle.refinement.specs.Ends.{Ends, NamesRegions, a-region, a-pair, a-triple}
 use Rattle.refinement.specs.declared.Step.{Step}
 use Rattle.refinement.specs.Plain.{Plain}
-use Rattle.refinement.specs.Prepare.{prepared}
 use Rattle.refinement.specs.Round.{round}
 use Rattle.refinement.specs.Refine.{mostRounds, stepped, rounds, refine, refined}
 use Rattle.refinement.specs.Run.{readied}
@@ -36,7 +35,7 @@ use Rattle.network.specs.declared.Area.{Area}
 use Rattle.network.specs.declared.Area.the-variants.{First, Second}
 use Rattle.network.specs.Areas.{holds}
 use Rattle.network.specs.Numbers.{areaNumber}
-use Rattle.network.specs.Ran.{answeredFrom, startsFrom, ranFrom}
+use Rattle.network.specs.Ran.{answeredFrom, startsFrom}
 use Rattle.filing.specs.Areas.{Areas}
 use Rattle.scene.specs.Reading.{readOf}
 use Rattle.scene.proofs.Answers.{read-small}
