@@ -298,13 +298,14 @@ uint32_t chachaqom_prepare(size_t n, const uint8_t *cells, size_t cells_length,
  *                                          bytes of both work areas are 0
  *   24  the rounds are used up             names the area that holds the last round's network in its
  *                                          first n * n bytes; the other one holds the network of the
- *                                          round before it there. Where no round was asked for, both
- *                                          stay as they were and the area given is named
+ *                                          round before it there, after one round the one given.
+ *                                          Where no round was asked for, both stay as they were and
+ *                                          the area given is named
  * 24 is answered for no rounds also where the network is finished. A call from the area that 24
  * names, with both areas as they were left, is never refused with 1, 2 or 25.
  *
- * Acceptance (0) leaves the network, of which all holds that chachaqom_refine promises, in the first
- * n * n bytes of both work areas, and names no area.
+ * Acceptance (0) leaves the network that a round no longer changes in the first n * n bytes of both
+ * work areas, and names no area. After chachaqom_prepare it is the one that chachaqom_refine leaves.
  *
  * Bytes of a work area from n * n on are never written. The answer's count is the number of rounds of
  * this call that changed something; for 23 the number of the refusing round in this call, from 1; for
