@@ -247,7 +247,8 @@ uint32_t chachaqom_refine(size_t n, const uint8_t *cells, size_t cells_length,
  *
  * Acceptance (0) leaves the prepared matrix, row by row as cells, in the first n * n bytes of first,
  * and the whole of second as it was. The rounds start from CHACHAQOM_FIRST_AREA; a call of
- * chachaqom_run from there is never refused with 1, 2 or 25.
+ * chachaqom_run from there, with the same n and both areas as they were left, is never refused with
+ * 1, 2 or 25.
  *
  * Bytes of a work area from n * n on are never written. The answer's count is 0.
  *
@@ -260,20 +261,24 @@ uint32_t chachaqom_prepare(size_t n, const uint8_t *cells, size_t cells_length,
 
 /*
  * Makes up to so many rounds from the network in one of the work areas, the round that confirms that
- * nothing changes any more included. No rounds at all may be asked for: then only the checks are made.
+ * nothing changes any more included. No rounds at all may be asked for: then only the checks are
+ * made.
  *
- *     number = chachaqom_prepare(n, cells, n * n, first, n * n, second, n * n, answer, sizeof answer);
+ *     area = CHACHAQOM_FIRST_AREA, count = 0;
+ *     number = chachaqom_prepare(n, cells, n * n, first, n * n, second, n * n,
+ *                                answer, sizeof answer);
  *     if (number == CHACHAQOM_ACCEPTED)
  *         do {
- *             number = chachaqom_run(n, area, 1, first, n * n, second, n * n, answer, sizeof answer);
+ *             number = chachaqom_run(n, area, 1, first, n * n, second, n * n,
+ *                                    answer, sizeof answer);
  *             count += chachaqom_number(answer, CHACHAQOM_ANSWER_COUNT);
  *             if (number == CHACHAQOM_UNFINISHED)
  *                 area = chachaqom_number(answer, CHACHAQOM_ANSWER_PLACES);
- *         } while (number == CHACHAQOM_UNFINISHED);   // area is 1 and count 0 at the start
+ *         } while (number == CHACHAQOM_UNFINISHED);
  *
- * However the rounds are shared out over calls, calls with none included, the last number, its places,
- * the counts added up and both areas are those of chachaqom_refine. Calls with a round or more each
- * finish: at most 7 * n * (n - 1) / 2 + 1 of them.
+ * However the rounds are shared out over such calls, calls with none included: once the number is
+ * not 24, it and its places, the counts added up and both areas are those of chachaqom_refine.
+ * Calls with a round or more each finish: there are at most 7 * n * (n - 1) / 2 + 1 of them.
  *
  *   n              the number of regions, 1 to 64
  *   area           which of the work areas holds the network: CHACHAQOM_FIRST_AREA or
@@ -302,7 +307,7 @@ uint32_t chachaqom_prepare(size_t n, const uint8_t *cells, size_t cells_length,
  *                                          Where no round was asked for, both stay as they were and
  *                                          the area given is named
  * 24 is answered for no rounds also where the network is finished. A call from the area that 24
- * names, with both areas as they were left, is never refused with 1, 2 or 25.
+ * names, with the same n and both areas as they were left, is never refused with 1, 2 or 25.
  *
  * Acceptance (0) leaves the network that a round no longer changes in the first n * n bytes of both
  * work areas, and names no area. After chachaqom_prepare it is the one that chachaqom_refine leaves.
