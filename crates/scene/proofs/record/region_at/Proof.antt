@@ -15,6 +15,12 @@ start c = c .before .before .before
 abbrev whole : tie.Else2 → tie.Else1
 whole c = c .before .before
 
+returns : tie.Need-returns
+returns c = sym (short-region _ _ _ (c .if1 .taken))
+
+returns-2 : tie.Need-returns-2
+returns-2 c = let read = c .before in sym (region-zero _ _ _ (read .before .if1 .left) (read .number-at .ensures) (c .if2 .taken))
+
 looked-up : (c : tie.After-place-of) → let a = start (whole (c .before)) .args in
     LookedUp (now (a .scene)) (now (a .identifiers)) (a .count) (a .at) (c .before .before .number-at .result) (c .place-of .result)
 looked-up c =
@@ -26,12 +32,6 @@ looked-up c =
       counted = start (whole named) .pre .counted;
       found-is = c .place-of .ensures;
     }
-
-returns : tie.Need-returns
-returns c = sym (short-region _ _ _ (c .if1 .taken))
-
-returns-2 : tie.Need-returns-2
-returns-2 c = let read = c .before in sym (region-zero _ _ _ (read .before .if1 .left) (read .number-at .ensures) (c .if2 .taken))
 
 returns-3 : tie.Need-returns-3
 returns-3 c = sym (by-found (looked-up (c .before .before)) ∙ rw (c .enum-told .given .1))
