@@ -5,8 +5,8 @@ use Prim.Native.Nat.{ℕ, zero, suc, _+_, _-_, _≤_, _<_}
 use native.Mathlib.Nat.{not-suc-le-zero, le-of-suc-le-suc}
 use native.Mathlib.Numerals.{add-one}
 use native.Mathlib.Omega.{arith}
-use lib.ListN.{length, getD, set, take, drop, length-append, length-take, length-drop, drop-of-length-le}
-use lib.Seq.{take-all, take-at, drop-at, getD-drop, getD-append-add, length-take-le}
+use lib.ListN.{length, getD, set, take, drop, length-append, length-take, length-drop, drop-of-length-le, List·getD-append}
+use lib.Seq.{take-all, take-at, drop-at, getD-take, getD-drop, getD-append-add, length-take-le}
 use Rattle.lists.specs.Laid.{laid}
 
 -- nothing is filled yet
@@ -52,6 +52,12 @@ pub laid-again : (p : ℕ) (filled before area : List ℕ) → p ≤ length befo
 unfolding laid
 laid-again p filled before area h =
     ap (λ (r : List ℕ). take p filled ++ r) (drop-at (take p before) (drop p area) p (length-take-le p before h))
+
+-- an entry that is filled
+pub getD-laid-in : (p : ℕ) (filled area : List ℕ) (q : ℕ) → q < p → p ≤ length filled → getD (laid p filled area) q 0 ≡ getD filled q 0
+unfolding laid
+getD-laid-in p filled area q h l =
+    List·getD-append (take p filled) (drop p area) 0 q (omega (arith, length-take p filled)) ∙ getD-take p filled q 0 h
 
 pub getD-laid-past : (p : ℕ) (filled area : List ℕ) (q : ℕ) → p ≤ q → p ≤ length filled
     → getD (laid p filled area) q 0 ≡ getD area q 0

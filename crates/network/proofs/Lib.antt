@@ -5,8 +5,8 @@ pub mod Endings
 pub mod Prepared
 pub mod PlainCells
 pub mod Running
-pub mod Stepped
-pub mod Turning
+pub mod InPlanes
+pub mod Left
 -- the lent areas and the part handed back
 pub mod Fronts
 pub mod Handing

@@ -14,17 +14,11 @@ use Rattle.relation.proofs.Within.{intersect-assoc, byte-within-universal}
 use Rattle.relation.proofs.CompositionLaws.{compose-listed}
 use Rattle.matrix.specs.Cells.{cell}
 use Rattle.refinement.specs.Round.{through, ranOut}
-use Rattle.refinement.proofs.Stages.{through-more}
 
 -- two sets composed by the listed entries
 pub composed-by-listed : {entries : List ℕ} {a b x y r : ℕ} → entries ≡ listed → x < 256 → x ≡ a → y ≡ b → r ≡ composeBy entries x y
     → r ≡ compose a b
 composed-by-listed {x = x} {y = y} e byte f g h = h ∙ rw (← f, ← g, e) (compose-listed x y byte)
-
--- the intersection with one place more
-pub through-next : (n : ℕ) (m : List ℕ) (i j k set along next : ℕ) → set ≡ through n m i j k
-    → along ≡ compose (cell n m i k) (cell n m k j) → next ≡ intersect set along → next ≡ through n m i j (k + 1)
-through-next n m i j k set along next e f g = g ∙ ap₂ intersect e f ∙ sym (through-more n m i j k)
 
 -- (i, j) intersected with the compositions through the places below k, and that it was not empty at any of them
 pub record Running (n : ℕ) (m : List ℕ) (i j k set : ℕ) : Type 0 where

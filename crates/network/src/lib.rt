@@ -1,10 +1,12 @@
 // The refinement of a matrix of relation sets, whole or a few rounds at a time, and the network that it hands back.
 mod areas;
+mod emptied;
+mod leaving;
 pub mod numbers;
 mod plain;
 mod preparing;
-mod round;
 mod rounds;
+mod turning;
 
 use region::Place;
 ghost use Rattle.network.specs.Prepared.{Prepared};

@@ -17,7 +17,7 @@ use Rattle.relation.proofs.Tests.{same, both, from-both, either, from-e
 
 -- ---- binary digits
 
-digit : (P : ℕ → Type 0) → P 0 → P 1 → (n : ℕ) → n < 2 → P n
+pub digit : (P : ℕ → Type 0) → P 0 → P 1 → (n : ℕ) → n < 2 → P n
 digit P z o zero h = z
 digit P z o (suc zero) h = o
 digit P z o (suc (suc n)) h = absurd (not-suc-le-zero (le-of-suc-le-suc (le-of-suc-le-suc h)))
@@ -25,7 +25,7 @@ digit P z o (suc (suc n)) h = absurd (not-suc-le-zero (le-of-suc-le-suc (le-of-s
 two-pos : zero < 2
 two-pos = zero-lt-suc 1
 
-half-below : (k n : ℕ) → n < 2 ^ suc k → n / 2 < 2 ^ k
+pub half-below : (k n : ℕ) → n < 2 ^ suc k → n / 2 < 2 ^ k
 half-below k n h = shr-lt k 1 (subst (λ (x : ℕ). n < 2 ^ x) (sym (add-one k)) h)
 
 digits-same : (m n : ℕ) → m < 2 → n < 2 → eqb m 1 ≡ eqb n 1 → m ≡ n

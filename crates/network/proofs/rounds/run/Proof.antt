@@ -1,10 +1,18 @@
 -- `rounds::run` meets its contract: the test decides, and where it passes the rounds do.
-use mathlib.Core.Path.{sym, _∙_}
+use mathlib.Core.Path.{_≡_, sym, _∙_}
+use mathlib.Core.Bool.{true}
 use borrow.Author.Needs.{needs}
 use borrow.Author.Tests.{not-true, not-false}
+use Rattle.refinement.specs.Run.{isPlain}
+use Rattle.network.specs.Areas.{chosen}
 use Rattle.network.proofs.Endings.{unplain-meets, plain-meets}
+use Rattle.network.proofs.Left.{startable}
 use Rattle.network.proofs.rounds.run.Statement.{statement}
 use Rattle.network.proofs.rounds.run.Tie as tie
+
+-- where the call began, and that the test passed
+abbrev start : tie.After-is-plain-in → tie.Start
+start c = c .before .before .before .before .before
 
 is-plain-in-requires : tie.Need-is-plain-in-requires
 is-plain-in-requires c κs = search needs
@@ -18,11 +26,12 @@ same-length-2 c = search needs
 returns : tie.Need-returns
 returns c = unplain-meets _ _ _ _ _ (sym (c .before .is-plain-in .ensures) ∙ not-true _ (c .if1 .taken))
 
-compositions-requires : tie.Need-compositions-requires
-compositions-requires c κs = search needs
-
-some-rounds-requires : tie.Need-some-rounds-requires
-some-rounds-requires c κs = search needs
+run-few-requires : tie.Need-run-few-requires
+run-few-requires c κs =
+    let tested = c .before .before .before in
+    let s = start (tested .before) in
+    let plain = sym (tested .before .is-plain-in .ensures) ∙ not-false _ (tested .if1 .left) in
+    (c .before .before .if2 .taken, startable (s .args .area) (s .pre .0) (s .pre .1) plain, s .pre .0, s .pre .1)
 
 same-length-3 : tie.Need-same-length-3
 same-length-3 c = search needs
@@ -32,9 +41,28 @@ same-length-4 c = search needs
 
 returns-2 : tie.Need-returns-2
 returns-2 c =
-    let ended = c .before .before .before .before in
-    let tested = ended .before .before .before .before .before in
-    plain-meets _ _ _ _ _ _ _ _ (sym (tested .before .is-plain-in .ensures) ∙ not-false _ (tested .if1 .left)) (ended .some-rounds .ensures)
+    let ran = c .before .before .before .before in
+    let tested = ran .before .before .before .before in
+    plain-meets _ _ _ _ _ _ _ _ (sym (tested .before .is-plain-in .ensures) ∙ not-false _ (tested .if1 .left)) (ran .run-few .ensures)
+
+run-many-requires : tie.Need-run-many-requires
+run-many-requires c κs =
+    let tested = c .before .before .before in
+    let s = start (tested .before) in
+    let plain = sym (tested .before .is-plain-in .ensures) ∙ not-false _ (tested .if1 .left) in
+    (s .pre .0 .few, startable (s .args .area) (s .pre .0) (s .pre .1) plain, s .pre .0, s .pre .1)
+
+same-length-5 : tie.Need-same-length-5
+same-length-5 c = search needs
+
+same-length-6 : tie.Need-same-length-6
+same-length-6 c = search needs
+
+returns-3 : tie.Need-returns-3
+returns-3 c =
+    let ran = c .before .before .before .before in
+    let tested = ran .before .before .before .before in
+    plain-meets _ _ _ _ _ _ _ _ (sym (tested .before .is-plain-in .ensures) ∙ not-false _ (tested .if1 .left)) (ran .run-many .ensures)
 
 pub run-spec : {M : Type 1} → statement M
 run-spec =
@@ -44,8 +72,11 @@ run-spec =
     same-length
     same-length-2
     returns
-    compositions-requires
-    some-rounds-requires
+    run-few-requires
     same-length-3
     same-length-4
-    returns-2)
+    returns-2
+    run-many-requires
+    same-length-5
+    same-length-6
+    returns-3)

@@ -1,0 +1,9 @@
+pub mod Lists
+pub mod Unions
+pub mod Sets
+pub mod Wiring
+pub mod Shifts
+pub mod Digits
+pub mod LowestBit
+pub mod InTurn
+pub mod Unique

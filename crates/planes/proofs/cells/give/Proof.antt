@@ -1,0 +1,24 @@
+-- `planes::cells::give` meets its contract.
+use mathlib.Core.Path.{sym, _∙_}
+use Rattle.planes.proofs.Crossing.{served-square, given-all, given-none}
+use borrow.Author.Needs.{needs}
+use Rattle.planes.proofs.cells.give.Statement.{statement}
+use Rattle.planes.proofs.cells.give.Tie as tie
+
+serves-requires : tie.Need-serves-requires
+serves-requires c κs = search needs
+
+give-rows-requires : tie.Need-give-rows-requires
+give-rows-requires c κs = served-square _ _ _ (sym (c .before .before .serves .ensures) ∙ c .before .if1 .taken)
+
+same-length : tie.Need-same-length
+same-length c = search needs
+
+returns : tie.Need-returns
+returns c = c .before .before .give-rows .ensures ∙ given-all _ _ _ (sym (c .before .before .before .before .before .serves .ensures) ∙ c .before .before .before .before .if1 .taken)
+
+returns-2 : tie.Need-returns-2
+returns-2 c = given-none _ _ _ (sym (c .before .serves .ensures) ∙ c .if1 .left)
+
+pub give-spec : {M : Type 1} → statement M
+give-spec = tie.close (tie.spec serves-requires give-rows-requires same-length returns returns-2)

@@ -1,0 +1,24 @@
+-- `planes::cells::take` meets its contract.
+use mathlib.Core.Path.{sym, _∙_}
+use Rattle.planes.proofs.Crossing.{served-square, taken-all, taken-none}
+use borrow.Author.Needs.{needs}
+use Rattle.planes.proofs.cells.take.Statement.{statement}
+use Rattle.planes.proofs.cells.take.Tie as tie
+
+serves-requires : tie.Need-serves-requires
+serves-requires c κs = search needs
+
+take-rows-requires : tie.Need-take-rows-requires
+take-rows-requires c κs = served-square _ _ _ (sym (c .before .before .serves .ensures) ∙ c .before .if1 .taken)
+
+same-length : tie.Need-same-length
+same-length c = search needs
+
+returns : tie.Need-returns
+returns c = c .before .before .take-rows .ensures ∙ taken-all _ _ _ (sym (c .before .before .before .before .before .serves .ensures) ∙ c .before .before .before .before .if1 .taken)
+
+returns-2 : tie.Need-returns-2
+returns-2 c = taken-none _ _ _ (sym (c .before .serves .ensures) ∙ c .if1 .left)
+
+pub take-spec : {M : Type 1} → statement M
+take-spec = tie.close (tie.spec serves-requires take-rows-requires same-length returns returns-2)

@@ -1,0 +1,5 @@
+pub mod Planes
+pub mod Round
+pub mod Onward
+pub mod Calls
+pub mod Inner

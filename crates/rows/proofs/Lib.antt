@@ -1,0 +1,4 @@
+pub mod Flipping
+pub mod Turning
+pub mod Placing
+pub mod Unique
