@@ -9,9 +9,10 @@ use Rattle.answer.specs.Ending.{accepted, refused}
 use Rattle.relation.specs.Sets.{has}
 use Rattle.region.specs.Lookup.{place}
 use Rattle.matrix.specs.Square.{Square}
-use Rattle.planes.specs.declared.rounds.Came.{Came}
+use Rattle.round.specs.declared.rounds.Came.{Came}
 use Rattle.planes.specs.Planes.{matrixPlanes, planesMatrix, laneCell}
-use Rattle.planes.specs.Calls.{taken, Rounds}
+use Rattle.planes.specs.Calls.{taken}
+use Rattle.round.specs.Calls.{Rounds}
 use Rattle.planes.proofs.Blocks.{length-planes}
 use Rattle.refinement.specs.declared.Step.{Step}
 use Rattle.refinement.specs.declared.Step.the-variants.{Empty, Same, Changed}

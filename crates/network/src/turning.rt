@@ -1,6 +1,6 @@
 // Rounds in planes, one after the other.
-use planes::round;
 use planes::take;
+use round::round;
 ghost use mathlib.Core.Path.{_≡_};
 ghost use lib.ListN.{length};
 ghost use Rattle.network.specs.Inner.{Room, Startable, Ends};

@@ -15,8 +15,7 @@ use Rattle.lanes.specs.Words.{setAt}
 use Rattle.lanes.proofs.Lists.{list-at, list-length, list-same}
 use Rattle.lanes.proofs.Sets.{has-mask, mask-below, mask-same, has-set, set-byte, set-is}
 use Rattle.lanes.proofs.Shifts.{has-beyond}
-use Rattle.planes.specs.Planes.{lane, setsOf, planesOf}
-use Rattle.planes.specs.Onward.{blockOf}
+use Rattle.planes.specs.Planes.{blockOf, lane, setsOf, planesOf}
 use Rattle.planes.specs.Inner.{lanesOf}
 
 -- ---- the set of a lane

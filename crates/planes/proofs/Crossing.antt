@@ -1,7 +1,7 @@
 -- Between cells and planes: a row of cells is a block, and a block a row of cells; the loops that cross row by row.
 use Prim.Native.Nat.{ℕ, _+_, _*_, _-_, _/_, _<_, _≤_}
 use mathlib.Core.Path.{_≡_, refl, sym, ap, ap₂, _∙_}
-use mathlib.Core.Bool.{Bool, true, false, cond, _&&_}
+use mathlib.Core.Bool.{Bool, true, false, cond, _&&_, true≢false}
 use mathlib.Core.List.{List}
 use native.Mathlib.Nat.{mul-le-mul-right, zero-mul}
 use native.Mathlib.Omega.{arith}
@@ -22,13 +22,15 @@ use Rattle.lanes.proofs.Lists.{list-at, list-length, list-same}
 use Rattle.lanes.proofs.Sets.{mask-same}
 use Rattle.rows.specs.Rows.{rowWords, rowCells, rowAfter}
 use Rattle.rows.proofs.Placing.{read-inside, row-served}
-use Rattle.planes.specs.Planes.{lane, planesOf, laneCell, matrixPlanes, planesMatrix}
-use Rattle.planes.specs.Onward.{blockOf}
+use Rattle.planes.specs.Planes.{blockOf, lane, planesOf, laneCell, matrixPlanes, planesMatrix}
 use Rattle.planes.specs.Calls.{servesCells, taken, given}
 use Rattle.planes.specs.Inner.{lanesOf, Square}
-use Rattle.planes.proofs.Serving.{both-true}
 use Rattle.planes.proofs.Laying.{part-laid, put-back}
 use Rattle.planes.proofs.Blocks.{set-block, block-planes}
+
+pub both-true : (a b : Bool) → a && b ≡ true → (a ≡ true) × (b ≡ true)
+both-true true b e = (refl, e)
+both-true false b e = absurd (true≢false (sym e))
 
 -- ---- the cells of a row
 

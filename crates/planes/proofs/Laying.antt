@@ -1,23 +1,23 @@
--- Eight words laid into an area, and the 64 words that each relation gives with the sets of a row, laid block by block.
+-- Eight words laid into an area, block by block.
 use Prim.Native.Nat.{ℕ, suc, _+_, _*_, _-_, _/_, _%_, _<_, _≤_}
 use mathlib.Core.Path.{_≡_, refl, sym, ap, ap₂, _∙_, subst}
 use mathlib.Core.Logic.{⊎-elim}
+use mathlib.Core.Bool.{Bool, true, false, cond}
 use mathlib.Core.List.{List, _++_, append-assoc}
 use native.Mathlib.Nat.{not-suc-le-zero, le-of-suc-le-suc, eq-or-lt-of-le}
 use native.Mathlib.Numerals.{add-one}
 use native.Mathlib.Omega.{arith}
-use lib.ListN.{length, getD, take, drop, set, List·getD-append}
+use borrow.Author.Tests.{lt-ltb, le-ltb}
+use lib.ListN.{length, getD, take, drop, set, replicate, List·getD-append}
 use borrow.Rule.Slice.PartMut.{putMid}
 use lib.Seq.{ext-getD, take-all, drop-drop, paste, paste-suc, length-paste, length-paste-head, length-take-le, getD-append-add, getD-take, getD-drop}
 use Rattle.lists.proofs.Splits.{split-lt}
 use Rattle.lists.specs.Laid.{laid}
 use Rattle.lists.proofs.LaidLaws.{length-laid, getD-laid-in, getD-laid-past}
 use Rattle.lanes.specs.Lists.{listOf}
-use Rattle.lanes.specs.Words.{wired}
 use Rattle.lanes.proofs.Lists.{list-length, list-at}
-use Rattle.lanes.proofs.Wiring.{wired-length}
-use Rattle.planes.specs.Onward.{blockOf, wiredAll}
-use Rattle.planes.specs.Inner.{Wired}
+use Rattle.planes.specs.Planes.{blockOf}
+use Rattle.planes.specs.Calls.{hasBlock, loaded, stored}
 
 -- ---- the loop that lays eight words from at on
 
@@ -94,43 +94,27 @@ put-back area w at count n e long =
     ∙ sym (append-assoc (take at area) w (drop n (drop at area)))
     ∙ ap₂ (λ (x y : List ℕ). take at area ++ x ++ y) (sym (take-all n w (omega arith))) (drop-drop n at area)
 
--- ---- the words of one relation more
+-- ---- a block that is there
 
-pub wired-start : (b l : List ℕ) → length l ≡ 64 → Wired b l 0
-wired-start b l h = record { long = h; word = λ p r l k. absurd (not-suc-le-zero l) }
+there : (words b : ℕ) → 8 * b + 8 ≤ words → hasBlock words b ≡ true
+there words b h = lt-ltb b (words / 8) (omega arith)
 
-pub wired-more : (b l w next : List ℕ) (p : ℕ) → p < 8 → Wired b l p → w ≡ wired p b → next ≡ paste l (8 * p) w 8 → Wired b next (suc p)
-wired-more b l w next p h d e q =
-    let long = d .long in
-    let eight : length w ≡ 8 = ap length e ∙ wired-length p b in
-    subst (λ (x : List ℕ). Wired b x (suc p)) (sym q) (record {
-      long = length-paste l (8 * p) w 8 (omega arith) (omega arith) ∙ long;
-      word = λ s r m k. ⊎-elim
-          (λ o. ap (λ (x : ℕ). getD (paste l (8 * p) w 8) (8 * x + r) 0) o
-          ∙ laid-in l (8 * p) w 8 (omega arith) eight r k
-          ∙ ap (λ (x : List ℕ). getD x r 0) e
-          ∙ ap (λ (x : ℕ). getD (wired x b) r 0) (sym o))
-          (λ o. laid-before l (8 * p) w 8 (omega arith) eight (8 * s + r) (omega arith) ∙ d .word s r o k)
-          (eq-or-lt-of-le (le-of-suc-le-suc m));
-    })
+pub loaded-there : (planes : List ℕ) (b : ℕ) → 8 * b + 8 ≤ length planes → loaded planes b ≡ blockOf planes b
+unfolding loaded
+loaded-there planes b h = ap (λ (t : Bool). cond t (blockOf planes b) (replicate 8 0)) (there (length planes) b h)
 
--- all eight relations' words
-pub wired-all : (b l : List ℕ) → Wired b l 8 → l ≡ wiredAll b
-unfolding wiredAll
-wired-all b l w =
-    let long = w .long in
-    let len = list-length 64 (λ v. getD (wired (v / 8) b) (v % 8) 0) in
-    ext-getD 0 l _ (long ∙ sym len) (λ v h.
-    let back : 8 * (v / 8) + v % 8 ≡ v = omega arith in
-    ap (λ (k : ℕ). getD l k 0) (sym back) ∙ w .word (v / 8) (v % 8) (omega arith) (omega arith)
-    ∙ sym (list-at 64 (λ v. getD (wired (v / 8) b) (v % 8) 0) v (omega arith)))
+pub stored-there : (planes : List ℕ) (b : ℕ) (words : List ℕ) → 8 * b + 8 ≤ length planes → stored planes b words ≡ paste planes (8 * b) words 8
+unfolding stored
+stored-there planes b words h = ap (λ (t : Bool). cond t (paste planes (8 * b) words 8) planes) (there (length planes) b h)
 
-pub all-wired : (b : List ℕ) → Wired b (wiredAll b) 8
-unfolding wiredAll
-all-wired b = record {
-  long = list-length 64 _;
-  word = λ p r h k.
-      let row : (8 * p + r) / 8 ≡ p = omega arith in
-      let at : (8 * p + r) % 8 ≡ r = omega arith in
-      list-at 64 (λ v. getD (wired (v / 8) b) (v % 8) 0) (8 * p + r) (omega arith) ∙ ap₂ (λ (x y : ℕ). getD (wired x b) y 0) row at;
-}
+-- one that is not
+absent : (words b : ℕ) → words / 8 ≤ b → hasBlock words b ≡ false
+absent words b h = le-ltb b (words / 8) h
+
+pub loaded-absent : (planes : List ℕ) (b : ℕ) → length planes / 8 ≤ b → loaded planes b ≡ replicate 8 0
+unfolding loaded
+loaded-absent planes b h = ap (λ (t : Bool). cond t (blockOf planes b) (replicate 8 0)) (absent (length planes) b h)
+
+pub stored-absent : (planes : List ℕ) (b : ℕ) (words : List ℕ) → length planes / 8 ≤ b → stored planes b words ≡ planes
+unfolding stored
+stored-absent planes b words h = ap (λ (t : Bool). cond t (paste planes (8 * b) words 8) planes) (absent (length planes) b h)

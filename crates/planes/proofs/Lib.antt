@@ -1,11 +1,4 @@
 pub mod Laying
-pub mod Narrowing
-pub mod Lanes
 pub mod Blocks
-pub mod Going
-pub mod LivePlaces
-pub mod Rounding
-pub mod Turning
-pub mod Serving
 pub mod Crossing
 pub mod Unique

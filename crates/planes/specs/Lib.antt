@@ -1,5 +1,3 @@
 pub mod Planes
-pub mod Round
-pub mod Onward
 pub mod Calls
 pub mod Inner

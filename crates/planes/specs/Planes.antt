@@ -21,6 +21,10 @@ setsOf planes = listOf (8 * length planes) (λ p. lane planes p)
 unfoldable pub planesOf : ℕ → (ℕ → ℕ) → List ℕ
 planesOf blocks f = listOf (8 * blocks) (λ w. maskOf 64 (λ x. has (f (64 * (w / 8) + x)) (w % 8)))
 
+-- block b of the planes
+unfoldable pub blockOf : List ℕ → ℕ → List ℕ
+blockOf planes b = listOf 8 (λ r. getD planes (8 * b + r) 0)
+
 -- how many lanes a row of n regions has
 abbrev pub strideOf : ℕ → ℕ
 strideOf n = 64

@@ -1,12 +1,8 @@
-// Matrices of up to 64 regions as planes, eight words to a row, and a round on them: composition in all lanes at once, through the
-// regions that are live.
+// Matrices of up to 64 regions as planes, eight words to a row: cells into planes and back, and the blocks of planes.
 mod cells;
-mod onward;
-mod rounds;
-mod through;
 mod words;
 
 pub use cells::give;
 pub use cells::take;
-pub use rounds::Came;
-pub use rounds::round;
+pub use words::block_at;
+pub use words::put_block;

@@ -1,3 +1,12 @@
+pub mod Wires
+pub mod Narrowing
+pub mod Lanes
+pub mod Going
+pub mod LivePlaces
+pub mod Rounding
+pub mod Turning
+pub mod Serving
+pub mod Unique
 pub mod Live
 pub mod SameRound
 pub mod Steps

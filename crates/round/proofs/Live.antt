@@ -19,7 +19,7 @@ use Rattle.relation.proofs.CompositionLaws.{equal-compose, compose-universal-le
 use Rattle.matrix.specs.Cells.{cell, grid, firstChange}
 use Rattle.matrix.proofs.CellLaws.{length-grid, cell-grid, ext-cell, no-change, none-changed}
 use Rattle.refinement.specs.Round.{through, round}
-use Rattle.planes.specs.Round.{throughLive}
+use Rattle.round.specs.Round.{throughLive}
 use Rattle.refinement.specs.Plain.{Filled, Plain}
 use Rattle.refinement.proofs.Stages.{length-round, round-cell, through-within, through-largest, round-below, round-plain}
 

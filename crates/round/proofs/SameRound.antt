@@ -31,12 +31,12 @@ use Rattle.lanes.proofs.Sets.{has-mask, mask-below}
 use Rattle.lanes.proofs.Shifts.{has-beyond}
 use Rattle.lanes.proofs.Digits.{all-ones}
 use Rattle.planes.specs.Planes.{lane, setsOf, planesOf, laneCell, matrixPlanes, planesMatrix}
-use Rattle.planes.specs.Round.{emptyLane, throughLive, known, newSet, roundPlanes, changedColumns}
-use Rattle.planes.specs.Calls.{cameOf, roundLeaves}
+use Rattle.round.specs.Round.{emptyLane, throughLive, known, newSet, roundPlanes, changedColumns}
+use Rattle.round.specs.Calls.{cameOf, roundLeaves}
 use Rattle.planes.proofs.Blocks.{sets-at, length-sets, lane-planes, length-planes, planes-same}
-use Rattle.planes.proofs.LivePlaces.{live-none, live-more, live-skip, live-same}
-use Rattle.planes.proofs.Rounding.{known-one}
-use Rattle.planes.proofs.Turning.{laid-past}
+use Rattle.round.proofs.LivePlaces.{live-none, live-more, live-skip, live-same}
+use Rattle.round.proofs.Rounding.{known-one}
+use Rattle.round.proofs.Turning.{laid-past}
 use Rattle.round.proofs.Live.{ColumnKept, LiveRounds, visited-cell, live-next, kept-unchanged}
 
 -- ---- the sets of a matrix' planes

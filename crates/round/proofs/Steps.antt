@@ -16,9 +16,10 @@ use Rattle.refinement.specs.declared.Step.the-variants.{Empty, Same, Changed}
 use Rattle.refinement.specs.Round.{round, ranOut}
 use Rattle.refinement.specs.Step.{stepOf}
 use Rattle.refinement.proofs.Stepping.{step-empty, step-same, step-changed}
-use Rattle.planes.specs.declared.rounds.Came.{Came}
+use Rattle.round.specs.declared.rounds.Came.{Came}
 use Rattle.planes.specs.Planes.{matrixPlanes, planesMatrix, planesOf, laneCell}
-use Rattle.planes.specs.Calls.{servesCells, servesRound, taken, given, cameOf, roundLeaves, Rounds}
+use Rattle.planes.specs.Calls.{servesCells, taken, given}
+use Rattle.round.specs.Calls.{servesRound, cameOf, roundLeaves, Rounds}
 use Rattle.planes.proofs.Blocks.{length-planes}
 use Rattle.round.proofs.Live.{LiveRounds}
 use Rattle.round.proofs.SameRound.{SameRound, same-round}

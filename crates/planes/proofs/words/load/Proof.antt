@@ -5,7 +5,7 @@ use native.Mathlib.Omega.{arith}
 use lib.ListN.{length, getD, take, length-set}
 use Rattle.lanes.specs.Lists.{listOf}
 use Rattle.lanes.proofs.Lists.{none-stored, one-stored, all-stored}
-use Rattle.planes.specs.Onward.{blockOf}
+use Rattle.planes.specs.Planes.{blockOf}
 use borrow.Author.Needs.{needs}
 use Rattle.planes.proofs.words.load.Statement.{statement}
 use Rattle.planes.proofs.words.load.Tie as tie

@@ -1,0 +1,118 @@
+-- `round::rounds::make_blocks` meets its contract. The loop's invariant is `Turning`: the blocks before b are made, and none has an empty set.
+use Prim.Native.Nat.{ℕ, _-_}
+use mathlib.Core.Path.{ap, _∙_}
+use mathlib.Core.List.{List}
+use native.Mathlib.Omega.{arith}
+use Rattle.round.specs.Inner.{lanesThatDiffer}
+use Rattle.round.proofs.Turning.{Turning, turning-starts, turning-stops, turning-goes, turning-ends, turned-block, chosen-room}
+use borrow.Author.Needs.{needs}
+use Rattle.round.proofs.rounds.make_blocks.Statement.{statement}
+use Rattle.round.proofs.rounds.make_blocks.Tie as tie
+
+abbrev Inv-loop : tie.InvT-loop
+Inv-loop n live old new₀ onward changed₀ b₀ new changed b = Turning n live old new₀ new changed b
+
+abbrev μ-loop : tie.MeasureT-loop
+μ-loop n live old new₀ onward changed₀ b₀ new changed b = n - b
+
+loop-holds : tie.Need-loop-holds Inv-loop μ-loop
+loop-holds c = turning-starts _ _ _ _
+
+load-requires : tie.Need-load-requires Inv-loop μ-loop
+load-requires c κs =
+    let ready = c .before .before .before .before .before .pre .0 in
+    omega (arith, ready .whole)
+
+chosen-requires : tie.Need-chosen-requires Inv-loop μ-loop
+chosen-requires c κs =
+    let ready = c .before .before .before .before .before .before .pre .0 in
+    omega (arith, ready .few)
+
+through-requires : tie.Need-through-requires Inv-loop μ-loop
+through-requires c κs = chosen-room _ _ _ _ _ _ _ _ (c .before .before .before .before .before .before .before .pre .0) (c .chosen .ensures)
+
+store-requires : tie.Need-store-requires Inv-loop μ-loop
+store-requires c κs =
+    let ready = c .before .before .before .before .before .before .before .before .before .pre .0 in
+    let loop = c .before .before .before .before .before .loop in
+    omega (arith, ready .made, loop .inv .long)
+
+empty-lane-requires : tie.Need-empty-lane-requires Inv-loop μ-loop
+empty-lane-requires c κs = search needs
+
+same-length : tie.Need-same-length Inv-loop μ-loop
+same-length c = search needs
+
+returns : tie.Need-returns Inv-loop μ-loop
+returns c =
+    let loop = c .before .before .before .before .before .before .before .before .before .before .loop in
+    let args = c .before .before .before .before .before .before .before .before .before .before .before .before .before .before .args in
+    let ready = c .before .before .before .before .before .before .before .before .before .before .before .before .before .before .pre .0 in
+    let load = c .before .before .before .before .before .before .before .before .load in
+    let chosen = c .before .before .before .before .before .before .before .chosen in
+    let through = c .before .before .before .before .before .before .through in
+    let made = turned-block (args .n) (args .live) (loop .b) (chosen .result) (args .old .now) (args .onward .now) (load .result) (through .result) _ _
+    ready (c .before .before .before .before .before .before .before .before .before .before .before .before .before .before .pre .1) (λ i. c .before .before .before .before .before .before .before .before .before .before .before .before .before .shared-slice-known .given i .fits) (omega arith) (load .ensures) (chosen .ensures)
+    (through .ensures) in
+    let stored = c .before .before .before .before .store in
+    turning-stops (args .n) (args .live) (args .old .now) (args .new .now) (ready .few) (ready .whole) (ready .made)
+    (loop .new) (through .result) (loop .changed) (loop .b) (omega arith) (loop .inv) made
+    _ (c .before .empty-lane .result) (stored .ensures) (omega arith) (c .before .empty-lane .ensures)
+
+differing-requires : tie.Need-differing-requires Inv-loop μ-loop
+differing-requires c κs = search needs
+
+add-b : tie.Need-add-b Inv-loop μ-loop
+add-b c = search needs
+
+loop-less : tie.Need-loop-less Inv-loop μ-loop
+loop-less c = search needs
+
+loop-again : tie.Need-loop-again Inv-loop μ-loop
+loop-again c =
+    let loop = c .before .before .before .before .before .before .before .before .before .before .before .loop in
+    let args = c .before .before .before .before .before .before .before .before .before .before .before .before .before .before .before .args in
+    let ready = c .before .before .before .before .before .before .before .before .before .before .before .before .before .before .before .pre .0 in
+    let load = c .before .before .before .before .before .before .before .before .before .load in
+    let chosen = c .before .before .before .before .before .before .before .before .chosen in
+    let through = c .before .before .before .before .before .before .before .through in
+    let made = turned-block (args .n) (args .live) (loop .b) (chosen .result) (args .old .now) (args .onward .now) (load .result) (through .result) _ _
+    ready (c .before .before .before .before .before .before .before .before .before .before .before .before .before .before .before .pre .1) (λ i. c .before .before .before .before .before .before .before .before .before .before .before .before .before .before .shared-slice-known .given i .fits) (omega arith) (load .ensures) (chosen .ensures)
+    (through .ensures) in
+    let stored = c .before .before .before .before .before .store in
+    turning-goes (args .n) (args .live) (args .old .now) (args .new .now) (ready .few) (ready .whole) (ready .made)
+    (loop .new) (through .result) (loop .changed) (loop .b) (omega arith) (loop .inv) made
+    _ (c .before .before .empty-lane .result) (c .differing .result) (stored .ensures) (omega arith) (c .before .before .empty-lane .ensures) (search needs)
+    (c .differing .ensures ∙ ap (λ (w : List ℕ). lanesThatDiffer (through .result) w) (load .ensures))
+
+same-length-2 : tie.Need-same-length-2 Inv-loop μ-loop
+same-length-2 c = c .before .loop .inv .long
+
+returns-2 : tie.Need-returns-2 Inv-loop μ-loop
+returns-2 c =
+    let loop = c .before .loop in
+    let args = c .before .before .before .before .before .args in
+    let ready = c .before .before .before .before .before .pre .0 in
+    turning-ends (args .n) (args .live) (args .old .now) (args .new .now) (ready .few) (ready .whole) (ready .made)
+    (loop .new) (loop .changed) (loop .b) (omega arith) (loop .inv)
+
+pub make-blocks-spec : {M : Type 1} → statement M
+make-blocks-spec =
+    tie.close
+    (tie.spec
+    Inv-loop
+    μ-loop
+    loop-holds
+    load-requires
+    chosen-requires
+    through-requires
+    store-requires
+    empty-lane-requires
+    same-length
+    returns
+    differing-requires
+    add-b
+    loop-less
+    loop-again
+    same-length-2
+    returns-2)

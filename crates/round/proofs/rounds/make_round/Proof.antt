@@ -1,0 +1,24 @@
+-- `round::rounds::make_round` meets its contract.
+use Rattle.round.proofs.Serving.{ready-room, ready-words}
+use borrow.Author.Needs.{needs}
+use Rattle.round.proofs.rounds.make_round.Statement.{statement}
+use Rattle.round.proofs.rounds.make_round.Tie as tie
+
+spread-out-requires : tie.Need-spread-out-requires
+spread-out-requires c κs = ready-room (c .before .before .before .before .pre)
+
+make-blocks-requires : tie.Need-make-blocks-requires
+make-blocks-requires c κs = ready-words _ _ _ (search needs) (c .before .before .before .before .before .before .before .before .before .pre) (c .before .before .before .before .spread-out .ensures)
+
+same-length : tie.Need-same-length
+same-length c = search needs
+
+same-length-2 : tie.Need-same-length-2
+same-length-2 c = search needs
+
+returns : tie.Need-returns
+returns c = search needs
+
+pub make-round-spec : {M : Type 1} → statement M
+make-round-spec =
+    tie.close (tie.spec spread-out-requires make-blocks-requires same-length same-length-2 returns)

@@ -1,0 +1,41 @@
+-- `round::rounds::round` meets its contract.
+use mathlib.Core.Path.{sym, _∙_}
+use Rattle.round.proofs.Serving.{served, served-ready, rounds-made, rounds-not-made}
+use borrow.Author.Needs.{needs}
+use Rattle.round.proofs.rounds.round.Statement.{statement}
+use Rattle.round.proofs.rounds.round.Tie as tie
+
+serves-requires : tie.Need-serves-requires
+serves-requires c κs = search needs
+
+below-requires : tie.Need-below-requires
+below-requires c κs = let s = served _ _ _ _ (sym (c .before .serves .ensures) ∙ c .if1 .taken) in (s .low, s .few)
+
+make-round-requires : tie.Need-make-round-requires
+make-round-requires c κs =
+    served-ready (c .before .before .before .before .before .before .before .before .args .live) _ (c .before .before .below .ensures) (served _ _ _ _ (sym (c .before .before .before .before .serves .ensures) ∙ c .before .before .before .if1 .taken))
+
+same-length : tie.Need-same-length
+same-length c = search needs
+
+same-length-2 : tie.Need-same-length-2
+same-length-2 c = search needs
+
+returns : tie.Need-returns
+returns c =
+    rounds-made _ _ _ _ _ _ _ _ _ (sym (c .before .before .before .before .before .before .before .before .before .serves .ensures) ∙ c .before .before .before .before .before .before .before .before .if1 .taken) (c .before .before .before .before .before .before .before .below .ensures) (c .before .before .before .before .make-round .ensures)
+
+returns-2 : tie.Need-returns-2
+returns-2 c = rounds-not-made _ _ _ _ _ (sym (c .before .serves .ensures) ∙ c .if1 .left)
+
+pub round-spec : {M : Type 1} → statement M
+round-spec =
+    tie.close
+    (tie.spec
+    serves-requires
+    below-requires
+    make-round-requires
+    same-length
+    same-length-2
+    returns
+    returns-2)

@@ -1,0 +1,81 @@
+-- `round::words::everywhere` meets its contract. The loop's invariant: the first r words are made.
+use Prim.Native.Nat.{_-_, _≤_}
+use mathlib.Core.Path.{_≡_}
+use mathlib.Core.Bool.{cond}
+use native.Mathlib.Omega.{arith}
+use lib.ListN.{length, getD, take, length-set}
+use borrow.Author.Needs.{needs}
+use Rattle.relation.specs.Sets.{has, empty}
+use Rattle.lanes.specs.Lists.{listOf}
+use Rattle.round.specs.Inner.{spread}
+use Rattle.lanes.proofs.Lists.{none-stored, one-stored, all-stored}
+use Rattle.lanes.proofs.Digits.{bit-times}
+use Rattle.round.proofs.words.everywhere.Statement.{statement}
+use Rattle.round.proofs.words.everywhere.Tie as tie
+
+abbrev Inv-loop : tie.InvT-loop
+Inv-loop k w all₀ r₀ all r = (r ≤ 8) × (length all ≡ 8) × (take r all ≡ listOf r (λ i. cond (has (getD w i 0) k) 18446744073709551615 empty))
+
+abbrev μ-loop : tie.MeasureT-loop
+μ-loop k w all₀ r₀ all r = 8 - r
+
+loop-holds : tie.Need-loop-holds Inv-loop μ-loop
+loop-holds c = (search needs, search needs, none-stored _)
+
+mul-all : tie.Need-mul-all Inv-loop μ-loop
+mul-all c = search needs
+
+array-read-all : tie.Need-array-read-all Inv-loop μ-loop
+array-read-all c = search needs
+
+shr-all : tie.Need-shr-all Inv-loop μ-loop
+shr-all c = search needs
+
+mul-all-2 : tie.Need-mul-all-2 Inv-loop μ-loop
+mul-all-2 c = search needs
+
+mul-all-3 : tie.Need-mul-all-3 Inv-loop μ-loop
+mul-all-3 c = search needs
+
+array-write-all : tie.Need-array-write-all Inv-loop μ-loop
+array-write-all c = search needs
+
+add-r : tie.Need-add-r Inv-loop μ-loop
+add-r c = search needs
+
+loop-less : tie.Need-loop-less Inv-loop μ-loop
+loop-less c = search needs
+
+loop-again : tie.Need-loop-again Inv-loop μ-loop
+loop-again c =
+    let args = c .before .before .args in
+    let loop = c .before .loop in (
+      search needs,
+      simp length-set (loop .inv .1),
+      one-stored (loop .all) _ (loop .r) _ (omega arith) (loop .inv .2)
+          (bit-times (getD (args .t1) (loop .r) 0) (args .k) 18446744073709551615),
+    )
+
+returns : tie.Need-returns Inv-loop μ-loop
+unfolding spread
+returns c =
+    let loop = c .before .loop in
+    all-stored 8 (loop .all) _ (loop .r) (loop .inv .1) (omega arith) (loop .inv .2)
+
+pub everywhere-spec : {M : Type 1} → statement M
+everywhere-spec =
+    tie.close
+    (tie.spec
+    Inv-loop
+    μ-loop
+    loop-holds
+    mul-all
+    array-read-all
+    shr-all
+    mul-all-2
+    mul-all-3
+    array-write-all
+    add-r
+    loop-less
+    loop-again
+    returns)

@@ -1,0 +1,4 @@
+pub mod Round
+pub mod Onward
+pub mod Calls
+pub mod Inner
