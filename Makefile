@@ -6,14 +6,15 @@
 #   make host                          the library's calls checked from C and from C++
 #   make compare                       the library compared with the second program, and with its faults
 #   make fuzz SEED=.. COUNT=..         the same comparison on other inputs
-#   make bench                         times beside other refinements
+#   make bench [OBJECT=..]             times beside other refinements
 #   make edit SCENE=.. [OUT=..]        the example host: shows a scene, and saves it to OUT
 #   make install PREFIX=..             libraries, headers, tools, manual pages and pkg-config file
 #   make uninstall PREFIX=..           takes them away again
 #   make clean                         removes all that was made
 #   make help                          this list
 #
-# ARCHIVE=.. names another archive than the one that `make library` makes.
+# ARCHIVE=.. names another archive than the one that `make library` makes. OBJECT=.. names an object file with
+# the calls, made for this machine's own processor: with it `make bench` is native on every machine.
 
 SCENE ?= examples/sector.scene
 OUT ?=
@@ -21,6 +22,7 @@ PREFIX ?= /usr/local
 DESTDIR ?=
 SEED ?= 1
 COUNT ?= 1000000
+OBJECT ?=
 ARCHIVE ?= target/staticlib/libchachaqom.a
 
 # What a user gives reaches the recipes through the environment, as it was given: none of it is read as
@@ -31,7 +33,8 @@ override PREFIX := $(value PREFIX)
 override DESTDIR := $(value DESTDIR)
 override SEED := $(value SEED)
 override COUNT := $(value COUNT)
-export SCENE OUT PREFIX DESTDIR SEED COUNT
+override OBJECT := $(value OBJECT)
+export SCENE OUT PREFIX DESTDIR SEED COUNT OBJECT
 
 VERSION := $(shell sed -n 's/^.define CHACHAQOM_VERSION "\(.*\)"/\1/p' include/chachaqom.h)
 BUILD = target/c
@@ -43,9 +46,6 @@ WARNINGS = -Wall -Wextra -Wpedantic -Werror
 STRICT_C = -std=c99 $(WARNINGS) -Iinclude
 STRICT_CXX = -std=c++11 $(WARNINGS) -Iinclude
 SANITIZED = -g -O1 -fsanitize=address,undefined -fno-sanitize-recover=all
-
-# A static library of Rust is linked with these; the list is rustc's own (--print native-static-libs).
-RUST_LIBRARIES = -lgcc_s -lutil -lrt -lpthread -lm -ldl -lc
 
 .PHONY: library report test host compare fuzz sanitized edit bench install uninstall clean help
 .DELETE_ON_ERROR:
@@ -139,21 +139,17 @@ $(BUILD)/editor: examples/editor.c $(HEADERS) $(ARCHIVE) | $(BUILD)
 
 # ---- times ----
 
-BENCHED = bench/bench.c bench/plain.c bench/queue.c
+BENCH_READS = $(wildcard bench/*.c bench/*.h) bench/plain.rs bench/build.sh include/chachaqom.h
 
-bench: $(BUILD)/bench
-	$(TOOLCHAIN) $$RUN $(BUILD)/bench "$$RUN"
+bench: $(if $(OBJECT),,$(BUILD)/bench/bench)
+	@if [ -n "$$OBJECT" ]; then \
+		bench/build.sh $(BUILD)/bench-native "$$OBJECT" native && $(BUILD)/bench-native/bench $(BUILD)/bench.csv 64; \
+	else \
+		$(TOOLCHAIN) $$RUN $(BUILD)/bench/bench $(BUILD)/bench.csv 64 "$$RUN"; \
+	fi && echo "bench: every time is in $(BUILD)/bench.csv; docs/PERFORMANCE.md says what is made of it"
 
-# Rust takes part where rustc is there and makes code for this machine, an x86-64 one.
-$(BUILD)/bench: $(BENCHED) bench/plain.rs bench/refiners.h bench/relations.h include/chachaqom.h $(ARCHIVE) | $(BUILD)
-	$(TOOLCHAIN) \
-	if [ -z "$$RUN" ] && command -v rustc > /dev/null; then \
-		rustc --edition 2021 --crate-type staticlib -C opt-level=2 -C panic=abort bench/plain.rs \
-			-o $(BUILD)/libplain_rust.a && \
-		rust="-DWITH_RUST $(BUILD)/libplain_rust.a $(RUST_LIBRARIES)"; \
-	else rust=; fi && \
-	$$CC $(STRICT_C) -O3 -Dplain_refine=plain_refine_faster -c bench/plain.c -o $(BUILD)/plain-O3.o && \
-	$$CC $(STRICT_C) -O2 -DCOMPILER_FLAGS='"-std=c99 -O2"' $(BENCHED) $(BUILD)/plain-O3.o $(ARCHIVE) $$rust -o $@
+$(BUILD)/bench/bench: $(BENCH_READS) $(ARCHIVE) | $(BUILD)
+	bench/build.sh $(BUILD)/bench $(ARCHIVE)
 
 # ---- installation ----
 

@@ -1,16 +1,20 @@
 /*
  * bench.c: times chachaqom_refine beside other refinements, on the same networks in the same run,
- * accepted and refused. Whether they accept, and the networks that they leave, are compared before
- * anything is timed. Times are the best of several batches, taken in turns; the table gives the
- * library's time and how many times as long each of the others took.
+ * accepted and refused. Every call goes on to another network of its kind, since the processor learns
+ * one that is repeated. Whether the refinements accept, and the networks that they leave, are compared
+ * before anything is timed. Times are processor time, the best of several batches, taken in turns;
+ * the table gives the library's time and how many times as long each of the others took, the best of
+ * each program with a star. The file has every time, in nanoseconds.
  *
- *     bench [EMULATOR]     EMULATOR: the command that runs this program, where there is one
+ *     bench FILE MOST [EMULATOR]     up to MOST regions; EMULATOR: the command that runs this program,
+ *                                    where there is one: then one short batch is made
  */
 #ifndef _POSIX_C_SOURCE
 #define _POSIX_C_SOURCE 200809L
 #endif
 
 #include "chachaqom.h"
+#include "networks.h"
 #include "refiners.h"
 
 #include <stdio.h>
@@ -19,357 +23,261 @@
 #include <sys/utsname.h>
 #include <time.h>
 
-/* Where the make file does not say with what the C refinements were compiled. */
-#ifndef COMPILER_FLAGS
-#define COMPILER_FLAGS "flags not known"
-#endif
-#ifdef __clang__
-#define COMPILER "clang " __clang_version__
-#else
-#define COMPILER "gcc " __VERSION__
-#endif
-
 enum {
-    BATCHES = 7,
+    BATCHES = 9,         /* where a turn over all networks is short, else: */
+    BATCHES_OF_LONG = 3, /* with turns of more than LONG_NANOSECONDS */
     BATCH_NANOSECONDS = 4000000,
+    LONG_NANOSECONDS = 40000000,
+    NETWORKS = 256, /* of a kind and size, at most, and: */
+    CELLS = 32768,  /* in all networks of a kind and size, at most: 8 networks of 64 regions */
+    NETWORKS_EMULATED = 2,
     MOST = CHACHAQOM_CELLS_LENGTH
 };
 
-static uint8_t cells[MOST], first[MOST], second[MOST], expected[MOST];
-static uint8_t answer[CHACHAQOM_ANSWER_LENGTH];
-
-/* ---- networks ---- */
-
-static uint64_t random_state;
-
-static size_t below(size_t limit)
-{
-    random_state = random_state * UINT64_C(6364136223846793005) + UINT64_C(1442695040888963407);
-    return (size_t)((random_state >> 33) % limit);
-}
-
-struct interval {
-    size_t low, high;
-};
-
-/* Two intervals: 0 apart, 1 touching, 2 with common inner points. */
-static int meeting(struct interval a, struct interval b)
-{
-    if (a.high < b.low || b.high < a.low)
-        return 0;
-    return a.high == b.low || b.high == a.low ? 1 : 2;
-}
-
-/* An interval in another: 0 no, 1 touching an end, 2 away from both. */
-static int within(struct interval a, struct interval b)
-{
-    if (a.low < b.low || a.high > b.high)
-        return 0;
-    return a.low == b.low || a.high == b.high ? 1 : 2;
-}
-
-static int least(int a, int b)
-{
-    return a < b ? a : b;
-}
-
-/* A region is a rectangle, one interval across and one upward. */
-struct rectangle {
-    struct interval across, upward;
-};
-
-static uint8_t relation_of(struct rectangle a, struct rectangle b)
-{
-    int common = least(meeting(a.across, b.across), meeting(a.upward, b.upward));
-    int in = least(within(a.across, b.across), within(a.upward, b.upward));
-    int around = least(within(b.across, a.across), within(b.upward, a.upward));
-
-    if (common < 2)
-        return common == 0 ? CHACHAQOM_DISJOINT : CHACHAQOM_MEET;
-    if (in > 0 && around > 0)
-        return CHACHAQOM_EQUAL;
-    if (in > 0)
-        return in == 2 ? CHACHAQOM_INSIDE : CHACHAQOM_COVERED_BY;
-    if (around > 0)
-        return around == 2 ? CHACHAQOM_CONTAINS : CHACHAQOM_COVERS;
-    return CHACHAQOM_OVERLAP;
-}
-
-static struct interval random_interval(size_t side)
-{
-    struct interval interval;
-
-    interval.low = below(side - 1);
-    interval.high = interval.low + 1 + below(side - 1 - interval.low);
-    return interval;
-}
-
-/*
- * States of rectangles what is true of them, with one other relation in half of the statements;
- * each region takes part in about `degree` statements.
- */
-static void state_rectangles(size_t n, size_t degree)
-{
-    struct rectangle rectangles[CHACHAQOM_REGIONS_LIMIT];
-    size_t i, j;
-
-    for (i = 0; i < n; i++) {
-        rectangles[i].across = random_interval(2 * n);
-        rectangles[i].upward = random_interval(2 * n);
-    }
-    for (i = 0; i < n; i++)
-        for (j = i + 1; j < n; j++)
-            if (below(n - 1) < degree) {
-                uint8_t set = relation_of(rectangles[i], rectangles[j]);
-
-                cells[i * n + j] = (uint8_t)(below(2) == 0 ? set : set | 1u << below(8));
-            }
-}
-
-static void state_sparse(size_t n)
-{
-    state_rectangles(n, 4);
-}
-
-static void state_medium(size_t n)
-{
-    state_rectangles(n, n / 4 + 2);
-}
-
-static void state_dense(size_t n)
-{
-    state_rectangles(n, n);
-}
-
-static void state_chain(size_t n)
-{
-    size_t i;
-
-    for (i = 0; i + 1 < n; i++)
-        cells[i * n + i + 1] = CHACHAQOM_INSIDE;
-}
-
-/* The last region inside the first: refused with 23, in a late round. */
-static void state_closed_chain(size_t n)
-{
-    state_chain(n);
-    cells[(n - 1) * n] = CHACHAQOM_INSIDE;
-}
-
-/* Rectangles, and at the end of the matrix two statements that no third region fits: refused with 23. */
-static void state_clash(size_t n)
-{
-    state_medium(n);
-    cells[(n - 3) * n + n - 2] = CHACHAQOM_CONTAINS;
-    cells[(n - 2) * n + n - 1] = CHACHAQOM_CONTAINS;
-    cells[(n - 3) * n + n - 1] = CHACHAQOM_MEET;
-}
-
-/* A pair that contradicts itself, the last in row order: refused with 22, before any round. */
-static void state_pair(size_t n)
-{
-    state_medium(n);
-    cells[(n - 2) * n + n - 1] = CHACHAQOM_INSIDE;
-    cells[(n - 1) * n + n - 2] = CHACHAQOM_INSIDE;
-}
+static const char *emulator = "";
+static uint8_t cells[CELLS], first[MOST], second[MOST], expected[MOST];
 
 /* ---- the refinements that are timed ---- */
 
-static size_t size;          /* of the network in cells */
-static uint32_t made_rounds; /* by the call last made, where it counts them */
-
-static uint32_t run_library(void)
+static uint32_t refine_by_library(size_t n, const uint8_t *network, uint8_t *one, uint8_t *other,
+                                  uint32_t *rounds)
 {
-    uint32_t number = chachaqom_refine(size, cells, size * size, first, size * size, second,
-                                       size * size, answer, sizeof answer);
+    static uint8_t answer[CHACHAQOM_ANSWER_LENGTH];
+    uint32_t number
+        = chachaqom_refine(n, network, n * n, one, n * n, other, n * n, answer, sizeof answer);
 
-    made_rounds = chachaqom_number(answer, CHACHAQOM_ANSWER_COUNT);
+    *rounds = chachaqom_number(answer, CHACHAQOM_ANSWER_COUNT);
     return number;
 }
 
-static uint32_t run_plain(void)
-{
-    return plain_refine(size, cells, first, second, &made_rounds);
-}
-
-static uint32_t run_plain_faster(void)
-{
-    return plain_refine_faster(size, cells, first, second, &made_rounds);
-}
-
-#ifdef WITH_RUST
-static uint32_t run_rust(void)
-{
-    return rust_refine(size, cells, first, second, &made_rounds);
-}
+static const struct refiner library = { "library", "", "", 1, NULL, refine_by_library };
+#ifdef RUSTC
+static const struct refiner rust = { "plain Rust", RUSTC, "-O3", 1, NULL, rust_refine };
 #endif
 
-/* It does not tell contradictions apart. */
-static uint32_t run_queue(void)
-{
-    return queue_refine(size, cells, first) ? CHACHAQOM_ACCEPTED : CHACHAQOM_PATH;
-}
-
-struct refinement {
-    const char *name;
-    uint32_t (*run)(void);
-    int exact; /* it counts rounds and numbers contradictions as the library does */
-};
-
-/* The library comes first: the others are compared with it. */
-static const struct refinement refinements[] = {
-    { "library", run_library, 1 },
-    { "plain C -O2", run_plain, 1 },
-    { "plain C -O3", run_plain_faster, 1 },
-#ifdef WITH_RUST
-    { "plain Rust", run_rust, 1 },
+/* The library comes first: the others are compared with it. Those of one program stand together. */
+static const struct refiner *const refiners[] = {
+    &library,
+    &plain_gcc_O2,
+    &plain_gcc_O3,
+    &plain_clang_O2,
+    &plain_clang_O3,
+#ifdef RUSTC
+    &rust,
 #endif
-    { "queue C", run_queue, 0 },
+    &queue_gcc_O2,
+    &queue_gcc_O3,
+    &queue_clang_O2,
+    &queue_clang_O3,
 };
 
-enum { REFINEMENTS = sizeof refinements / sizeof refinements[0] };
+enum { REFINERS = sizeof refiners / sizeof refiners[0] };
 
-/* Whether a refinement answers as the library did, and leaves the same network where it accepts. */
-static int alike(const struct refinement *refinement, uint32_t number, uint32_t rounds)
+/* ---- comparison ---- */
+
+/* The networks of one kind and size, in `cells`. */
+struct rotation {
+    const struct kind *kind;
+    size_t n, count;
+    double rounds; /* of one network, on average */
+};
+
+/* Whether a refiner answers as the library did, and leaves the same network where it accepts. */
+static int alike(const struct refiner *refiner, size_t n, const uint8_t *network, uint32_t number,
+                 uint32_t rounds)
 {
-    uint32_t answered = refinement->run();
+    uint32_t counted, answered = refiner->refine(n, network, first, second, &counted);
 
     if ((answered == CHACHAQOM_ACCEPTED) != (number == CHACHAQOM_ACCEPTED))
         return 0;
-    if (refinement->exact && (answered != number || made_rounds != rounds))
+    if (refiner->exact && (answered != number || counted != rounds))
         return 0;
-    return number != CHACHAQOM_ACCEPTED || memcmp(first, expected, size * size) == 0;
+    return number != CHACHAQOM_ACCEPTED || memcmp(first, expected, n * n) == 0;
 }
 
-/* All refinements agree on the network in cells, else the program ends; the number is handed back. */
-static uint32_t compare_all(const char *kind, uint32_t wanted)
+/* All refiners agree on a network, else the program ends; returns the count of rounds. */
+static uint32_t compare_all(const struct rotation *rotation, const uint8_t *network)
 {
-    uint32_t number = run_library(), rounds = made_rounds;
-    size_t which;
+    size_t n = rotation->n, which;
+    uint32_t rounds, number = library.refine(n, network, first, second, &rounds);
 
-    memcpy(expected, first, size * size);
-    for (which = 0; which < REFINEMENTS; which++)
-        if (number != wanted || !alike(&refinements[which], number, rounds)) {
-            printf("bench: %s, %s, %zu regions: another result\n", refinements[which].name, kind, size);
+    memcpy(expected, first, n * n);
+    for (which = 0; which < REFINERS; which++)
+        if (number != rotation->kind->number
+            || !alike(refiners[which], n, network, number, rounds)) {
+            printf("bench: %s, %s %s, %s, %zu regions: another result\n", refiners[which]->program,
+                   refiners[which]->compiler, refiners[which]->flags, rotation->kind->name, n);
             exit(1);
         }
-    return number;
+    return rounds;
+}
+
+/* Fills a rotation: as many networks as there is room for, each compared. */
+static struct rotation make_rotation(const struct kind *kind, size_t n)
+{
+    struct rotation rotation = { kind, n, CELLS / (n * n), 0 };
+    size_t most = kind->single ? 1 : emulator[0] != '\0' ? NETWORKS_EMULATED : NETWORKS, which;
+
+    if (rotation.count > most)
+        rotation.count = most;
+    make_networks(kind, n, rotation.count, cells);
+    for (which = 0; which < rotation.count; which++)
+        rotation.rounds += compare_all(&rotation, cells + which * n * n);
+    rotation.rounds /= (double)rotation.count;
+    return rotation;
 }
 
 /* ---- times ---- */
 
+/* Of processor time: that other programs run meanwhile does not count. */
 static double nanoseconds(void)
 {
     struct timespec now;
 
-    clock_gettime(CLOCK_MONOTONIC, &now);
+    clock_gettime(CLOCK_PROCESS_CPUTIME_ID, &now);
     return 1e9 * (double)now.tv_sec + (double)now.tv_nsec;
 }
 
-static double time_calls(uint32_t (*run)(void), size_t calls)
+/* Nanoseconds for so many turns over the networks. */
+static double time_turns(const struct refiner *refiner, const struct rotation *rotation, size_t turns)
 {
+    size_t n = rotation->n, which;
     double start = nanoseconds();
-    size_t i;
+    uint32_t rounds;
 
-    for (i = 0; i < calls; i++)
-        run();
+    for (; turns > 0; turns--)
+        for (which = 0; which < rotation->count; which++)
+            refiner->refine(n, cells + which * n * n, first, second, &rounds);
     return nanoseconds() - start;
 }
 
-/* Calls that make up a batch. */
-static size_t calls_of(uint32_t (*run)(void))
-{
-    return 1 + (size_t)(BATCH_NANOSECONDS / (time_calls(run, 1) + 1));
-}
-
 /* Nanoseconds for one call of each, in the best of several batches; they take turns. */
-static void take_times(double *best)
+static void take_times(const struct rotation *rotation, double *best)
 {
-    size_t calls[REFINEMENTS], which, batch;
+    double turn[REFINERS];
+    size_t which, batch;
 
-    for (which = 0; which < REFINEMENTS; which++)
-        calls[which] = calls_of(refinements[which].run);
-    for (batch = 0; batch < BATCHES; batch++)
-        for (which = 0; which < REFINEMENTS; which++) {
-            double each = time_calls(refinements[which].run, calls[which]) / (double)calls[which];
+    for (which = 0; which < REFINERS; which++) {
+        turn[which] = time_turns(refiners[which], rotation, 1);
+        best[which] = turn[which] / (double)rotation->count;
+    }
+    for (batch = 0; batch < BATCHES && emulator[0] == '\0'; batch++)
+        for (which = 0; which < REFINERS; which++) {
+            size_t turns = 1 + (size_t)(BATCH_NANOSECONDS / (turn[which] + 1));
+            double each;
 
-            if (batch == 0 || each < best[which])
+            if (batch >= BATCHES_OF_LONG && turn[which] > LONG_NANOSECONDS)
+                continue;
+            each = time_turns(refiners[which], rotation, turns) / (double)(turns * rotation->count);
+            if (each < best[which])
                 best[which] = each;
         }
 }
 
-static void print_row(const char *kind, uint32_t number)
+/* No other compiler made the same program faster. */
+static int is_best(const double *best, size_t which)
 {
-    double best[REFINEMENTS];
+    size_t other;
+
+    for (other = 0; other < REFINERS; other++)
+        if (strcmp(refiners[other]->program, refiners[which]->program) == 0
+            && best[other] < best[which])
+            return 0;
+    return 1;
+}
+
+static void print_row(FILE *file, const struct rotation *rotation)
+{
+    const char *kind = rotation->kind->name;
+    double best[REFINERS];
     size_t which;
 
-    take_times(best);
-    run_library();
-    printf("%4zu  %-8s %6lu %6lu %14.1f", size, kind, (unsigned long)number,
-           (unsigned long)made_rounds, best[0] / 1000);
-    for (which = 1; which < REFINEMENTS; which++)
-        printf(" %12.2f", best[which] / best[0]);
+    take_times(rotation, best);
+    printf("%3zu %-8s %4zu %6lu %6.1f %11.3f", rotation->n, kind, rotation->count,
+           (unsigned long)rotation->kind->number, rotation->rounds, best[0] / 1000);
+    for (which = 1; which < REFINERS; which++)
+        printf(" %7.2f%c", best[which] / best[0], is_best(best, which) ? '*' : ' ');
     printf("\n");
     fflush(stdout);
+    for (which = 0; which < REFINERS; which++)
+        fprintf(file, "%zu,%s,%lu,%zu,%.2f,%s,%s,%s,%.1f\n", rotation->n, kind,
+                (unsigned long)rotation->kind->number, rotation->count, rotation->rounds,
+                refiners[which]->program, refiners[which]->compiler, refiners[which]->flags,
+                best[which]);
 }
 
 /* ---- the machine ---- */
 
-static void print_processor(void)
+/* The processor as Linux names it, or the numbers that it gives in place of a name. */
+static void say_processor(FILE *file)
 {
+    static const char *const said[] = { "model name", "CPU implementer", "CPU part" };
     char line[256];
-    FILE *file = fopen("/proc/cpuinfo", "r");
+    FILE *about = fopen("/proc/cpuinfo", "r");
+    size_t which;
 
-    while (file != NULL && fgets(line, sizeof line, file) != NULL)
-        if (strncmp(line, "model name", strlen("model name")) == 0) {
-            printf("processor: %s", strchr(line, ':') != NULL ? strchr(line, ':') + 2 : line);
-            break;
-        }
-    if (file != NULL)
-        fclose(file);
+    while (about != NULL && fgets(line, sizeof line, about) != NULL && line[0] != '\n')
+        for (which = 0; which < sizeof said / sizeof said[0]; which++)
+            if (strncmp(line, said[which], strlen(said[which])) == 0 && strchr(line, ':') != NULL)
+                fprintf(file, "# %s%s", said[which], strchr(line, ':'));
+    if (about != NULL)
+        fclose(about);
 }
 
-static void print_machine(const char *emulator)
+static void say_machine(FILE *file)
 {
     struct utsname names;
+    size_t which;
 
     if (uname(&names) == 0)
-        printf("machine: %s %s %s\n", names.sysname, names.release, names.machine);
-    print_processor();
-    printf("compiler of the C refinements: %s, %s; with -O3 in place of -O2 where it says so\n",
-           COMPILER, COMPILER_FLAGS);
+        fprintf(file, "# machine: %s %s %s\n", names.sysname, names.release, names.machine);
+    say_processor(file);
+    for (which = 1; which < REFINERS; which++)
+        fprintf(file, "# %s: %s, %s\n", refiners[which]->program, refiners[which]->compiler,
+                refiners[which]->flags);
     if (emulator[0] == '\0')
-        printf("run natively\n");
+        fprintf(file, "# run natively\n");
     else
-        printf("run under an emulator (%s): these times say nothing\n", emulator);
+        fprintf(file, "# run under an emulator (%s): these times say nothing\n", emulator);
+}
+
+/* A word of a compiler's name, enough for a column. */
+static void print_heads(void)
+{
+    size_t which;
+
+    printf("\n%3s %-8s %4s %6s %6s %11s", "n", "kind", "of", "number", "rounds", "library, us");
+    for (which = 1; which < REFINERS; which++)
+        printf(" %8.*s", (int)strcspn(refiners[which]->program, " "), refiners[which]->program);
+    printf("  (times the library's time)\n%43s", "");
+    for (which = 1; which < REFINERS; which++)
+        printf(" %5.*s%s", (int)strcspn(refiners[which]->compiler, " "), refiners[which]->compiler,
+               refiners[which]->flags);
+    printf("\n");
 }
 
 int main(int argc, char **argv)
 {
-    static const struct {
-        const char *name;
-        void (*state)(size_t);
-        uint32_t number;
-    } kinds[] = {
-        { "sparse", state_sparse, CHACHAQOM_ACCEPTED }, { "medium", state_medium, CHACHAQOM_ACCEPTED },
-        { "dense", state_dense, CHACHAQOM_ACCEPTED }, { "chain", state_chain, CHACHAQOM_ACCEPTED },
-        { "closed", state_closed_chain, CHACHAQOM_PATH }, { "clash", state_clash, CHACHAQOM_PATH },
-        { "pair", state_pair, CHACHAQOM_ARC }
-    };
-    size_t kind, which;
+    FILE *file = argc > 2 ? fopen(argv[1], "w") : NULL;
+    size_t most = argc > 2 ? (size_t)strtoul(argv[2], NULL, 10) : 0, n, which;
 
-    queue_prepare();
-    print_machine(argc > 1 ? argv[1] : "");
-    printf("\n   n  network  number rounds    library, us");
-    for (which = 1; which < REFINEMENTS; which++)
-        printf(" %12s", refinements[which].name);
-    printf("   (times the library's time)\n");
-    for (size = 8; size <= CHACHAQOM_REGIONS_LIMIT; size *= 2)
-        for (kind = 0; kind < sizeof kinds / sizeof kinds[0]; kind++) {
-            random_state = size;
-            memset(cells, CHACHAQOM_UNIVERSAL, sizeof cells);
-            kinds[kind].state(size);
-            print_row(kinds[kind].name, compare_all(kinds[kind].name, kinds[kind].number));
+    if (file == NULL || most > CHACHAQOM_REGIONS_LIMIT) {
+        fprintf(stderr, "bench FILE MOST [EMULATOR]: a file to write, and up to how many regions\n");
+        return 2;
+    }
+    emulator = argc > 3 ? argv[3] : "";
+    for (which = 0; which < REFINERS; which++)
+        if (refiners[which]->prepare != NULL)
+            refiners[which]->prepare();
+    say_machine(stdout);
+    say_machine(file);
+    fprintf(file, "n,kind,number,networks,rounds,program,compiler,flags,nanoseconds\n");
+    print_heads();
+    for (n = 4; n <= most; n *= 2)
+        for (which = 0; which < KINDS; which++) {
+            struct rotation rotation = make_rotation(&kinds[which], n);
+
+            print_row(file, &rotation);
         }
-    return 0;
+    return fclose(file) == 0 ? 0 : 1;
 }

@@ -1,6 +1,6 @@
 /*
  * plain.c: the plain refinement in C, to be measured beside the library: every round composes all
- * pairs of cells through the table of 64 compositions.
+ * pairs of cells through the table of 64 compositions. NAME and FLAGS come from build.sh.
  */
 #include "refiners.h"
 
@@ -62,8 +62,8 @@ static int make_round(size_t n, const uint8_t *old, uint8_t *next)
     return empty;
 }
 
-uint32_t plain_refine(size_t n, const uint8_t *cells, uint8_t *first, uint8_t *second,
-                      uint32_t *rounds)
+static uint32_t refine(size_t n, const uint8_t *cells, uint8_t *first, uint8_t *second,
+                       uint32_t *rounds)
 {
     uint8_t *old = first, *next = second;
     uint32_t number = prepare(n, cells, first);
@@ -85,3 +85,5 @@ uint32_t plain_refine(size_t n, const uint8_t *cells, uint8_t *first, uint8_t *s
         next = swap;
     }
 }
+
+const struct refiner NAME = { "plain C", COMPILER, FLAGS, 1, NULL, refine };

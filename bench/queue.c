@@ -1,6 +1,7 @@
 /*
  * queue.c: path consistency with a queue, to be measured beside the library: a table of all
- * compositions of two sets, and a queue of the pairs whose set has changed.
+ * compositions of two sets, and a queue of the pairs whose set has changed. NAME and FLAGS come from
+ * build.sh.
  */
 #include "refiners.h"
 
@@ -13,7 +14,7 @@ enum { SETS = 256, PAIRS = CHACHAQOM_CELLS_LENGTH };
 static uint8_t compositions[SETS][SETS], converses[SETS];
 
 /* Each entry from one with a relation less on either side. */
-void queue_prepare(void)
+static void make_table(void)
 {
     unsigned a, b, p, q;
 
@@ -30,7 +31,7 @@ void queue_prepare(void)
     }
 }
 
-/* The pairs that wait, each at most once. */
+/* The pairs that wait, each at most once; `waiting` is cleared for as many pairs as there are. */
 struct queue {
     uint16_t pairs[PAIRS];
     uint8_t waiting[PAIRS];
@@ -89,14 +90,19 @@ static int prepare(struct queue *queue, size_t n, const uint8_t *cells, uint8_t 
     return 1;
 }
 
-int queue_refine(size_t n, const uint8_t *cells, uint8_t *network)
+/* The contradictions are not told apart, no rounds are counted, and the second area is not used. */
+static uint32_t refine(size_t n, const uint8_t *cells, uint8_t *network, uint8_t *second,
+                       uint32_t *rounds)
 {
     static struct queue queue;
     size_t k;
 
-    memset(&queue, 0, sizeof queue);
+    (void)second;
+    *rounds = 0;
+    queue.first = queue.count = 0;
+    memset(queue.waiting, 0, n * n);
     if (!prepare(&queue, n, cells, network))
-        return 0;
+        return CHACHAQOM_PATH;
     while (queue.count > 0) {
         size_t pair = pop(&queue), i = pair / n, j = pair % n;
 
@@ -107,8 +113,10 @@ int queue_refine(size_t n, const uint8_t *cells, uint8_t *network)
                         compositions[network[i * n + j]][network[j * n + k]])
                 || !narrow(&queue, n, network, k, j,
                            compositions[network[k * n + i]][network[i * n + j]]))
-                return 0;
+                return CHACHAQOM_PATH;
         }
     }
-    return 1;
+    return CHACHAQOM_ACCEPTED;
 }
+
+const struct refiner NAME = { "queue C", COMPILER, FLAGS, 0, make_table, refine };

@@ -9,23 +9,40 @@
 #include <stdint.h>
 
 /*
- * Rounds over the table of 64 compositions, as the library's rules say them, in C and in Rust. The
- * network is left in both areas. Returns 0, or the number of the contradiction; *rounds receives the
- * count of rounds.
+ * A refinement as one compiler made it. `refine` leaves the network in the first area and returns 0,
+ * or the number of the contradiction; *rounds receives the count of rounds.
  */
-uint32_t plain_refine(size_t n, const uint8_t *cells, uint8_t *first, uint8_t *second,
-                      uint32_t *rounds);
-uint32_t plain_refine_faster(size_t n, const uint8_t *cells, uint8_t *first, uint8_t *second,
-                             uint32_t *rounds); /* the same source, compiled with -O3 */
+struct refiner {
+    const char *program;  /* what it is: library, plain C, plain Rust, queue C */
+    const char *compiler; /* with its version, empty where it is not known */
+    const char *flags;
+    int exact;             /* it numbers contradictions and counts rounds as the library does */
+    void (*prepare)(void); /* to be called once; NULL where there is nothing to prepare */
+    uint32_t (*refine)(size_t n, const uint8_t *cells, uint8_t *first, uint8_t *second,
+                       uint32_t *rounds);
+};
+
+/* What the C refinements say of their own compiler. */
+#define TEXT_OF(number) #number
+#define VERSION_OF(major, minor, patch) TEXT_OF(major) "." TEXT_OF(minor) "." TEXT_OF(patch)
+#ifdef __clang__
+#define COMPILER "clang " VERSION_OF(__clang_major__, __clang_minor__, __clang_patchlevel__)
+#else
+#define COMPILER "gcc " VERSION_OF(__GNUC__, __GNUC_MINOR__, __GNUC_PATCHLEVEL__)
+#endif
+
+/* plain.c: rounds over the table of 64 compositions, as the library's rules say them. */
+extern const struct refiner plain_gcc_O2, plain_gcc_O3, plain_clang_O2, plain_clang_O3;
+
+/* plain.rs: the same in Rust. */
 uint32_t rust_refine(size_t n, const uint8_t *cells, uint8_t *first, uint8_t *second,
                      uint32_t *rounds);
 
 /*
- * Path consistency with a table of all 65,536 compositions of sets and a queue of changed pairs, as
- * reasoners of this kind do it. The network is left in the area. Returns 1 if it is consistent in
- * this sense, else 0. queue_prepare makes the table and must have been called once.
+ * queue.c: path consistency with a table of all 65,536 compositions of sets and a queue of changed
+ * pairs, as reasoners of this kind do it. It stops at the first clash that it meets, whatever its
+ * number or place, counts no rounds and works in one area.
  */
-void queue_prepare(void);
-int queue_refine(size_t n, const uint8_t *cells, uint8_t *network);
+extern const struct refiner queue_gcc_O2, queue_gcc_O3, queue_clang_O2, queue_clang_O3;
 
 #endif

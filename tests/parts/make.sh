@@ -98,7 +98,21 @@ without_network() {
         grep -q 'E: there is no network here' "$WORK/alone.txt" && grep -q 'could not install.* gcc' "$WORK/alone.txt"
 }
 
+# The measurement is made, its programs agree with the library, and picture and tables come of what it writes; nothing is timed here.
+benched() {
+    $MAKE $BUILD/bench/bench && $RUN $BUILD/bench/bench "$WORK/bench.csv" 8 "$RUN" > "$WORK/bench.txt" ||
+        { cat "$WORK/bench.txt"; return 1; }
+    ! $RUN $BUILD/bench/bench "$WORK/none.csv" 65 2> /dev/null || { echo "65 regions were taken"; return 1; }
+    python3 bench/picture.py "$WORK/bench.csv" > "$WORK/bench.svg" &&
+        python3 -c 'import sys, xml.dom.minidom as dom; dom.parse(sys.argv[1])' "$WORK/bench.svg" || return 1
+    for kind in sparse medium dense chain 'nothing stated' 'refused 23' 'refused 22' 'refused 21'; do
+        grep -q ">$kind" "$WORK/bench.svg" || { echo "the picture has no '$kind'"; return 1; }
+    done
+    python3 bench/tables.py "$WORK/bench.csv" > "$WORK/bench.md" && grep -q '^| 8 | closed | 2.0 |' "$WORK/bench.md"
+}
+
 making() {
-    odd_names && numbers_asked && progress_told && proving_told && remade && without_kit && without_network && $MAKE help | grep -q 'make uninstall' &&
-        echo "odd names, wrong numbers, progress, changes, a machine without the kit"
+    odd_names && numbers_asked && progress_told && proving_told && remade && without_kit && without_network && benched &&
+        $MAKE help | grep -q 'make uninstall' &&
+        echo "odd names, wrong numbers, progress, changes, a machine without the kit, the measurement's programs"
 }

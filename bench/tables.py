@@ -1,0 +1,102 @@
+#!/usr/bin/env python3
+"""tables.py FILE: prints, as tables of Markdown, what the file that bench writes says: the times, how they grow, what the compilers
+make of the C programs, and which bars are met. tables.py FILE DOCUMENT: whether all of these lines stand in the document."""
+import sys
+
+from figures import LIBRARY, Run
+
+LARGEST = 64
+
+
+def number(value):
+    """Three digits, or all before the point."""
+    return f"{value:,.0f}" if value >= 100 else f"{value:.1f}" if value >= 10 else f"{value:.2f}"
+
+
+def row(*cells):
+    return "| " + " | ".join(cells) + " |"
+
+
+def table(heads, rows):
+    yield row(*heads)
+    yield "|" + "---|" * len(heads)
+    yield from rows
+
+
+def times(run, kinds):
+    """The library's time, and how many times as long the others take by their best compilers."""
+    for n in run.sizes:
+        for kind in kinds:
+            cells = [str(n), kind, f"{run.rounds[kind, n]:.1f}", number(run.best(kind, n, LIBRARY)[0] / 1000)]
+            for program in run.others:
+                by = run.best(kind, n, program)[1]
+                compiler = "" if program == "plain Rust" else f" ({by})"
+                cells.append(number(run.times_library(kind, n, program)) + compiler)
+            yield row(*cells)
+
+
+def growth(run):
+    """By what a time is multiplied where the number of regions is doubled."""
+    for kind in run.kinds:
+        for program in (LIBRARY, "queue C"):
+            steps = zip(run.sizes, run.sizes[1:])
+            yield row(kind, program, *(number(run.best(kind, b, program)[0] / run.best(kind, a, program)[0]) for a, b in steps))
+
+
+def compilers(run):
+    """How many times as fast as gcc -O2 each compiler makes a program at the largest size."""
+    n = run.sizes[-1]
+    for program in ("plain C", "queue C"):
+        for kind in run.accepted():
+            made = run.times[kind, n, program]
+            yield row(program, kind, *(number(made["gcc -O2"] / made[by]) for by in sorted(made, reverse=True)))
+
+
+def bar(run, said, least, program, places):
+    """One bar: the least of how many times the library's time the program took at these places, and whether it is enough."""
+    kind, n = min(places, key=lambda place: run.times_library(*place, program))
+    found = run.times_library(kind, n, program)
+    return row(said, f"{found:.2f}", f"{kind}, n = {n}", "yes" if found >= least else "no")
+
+
+def bars(run):
+    stated = [kind for kind in run.accepted() if kind != "nothing"]
+    queue, plain = "queue C", "plain C"
+    for n in (16, 32, LARGEST):
+        yield bar(run, f"n = {n}: faster than the queue, something stated", 1, queue, [(kind, n) for kind in stated])
+    for n in (16, 32, LARGEST):
+        yield bar(run, f"n = {n}: faster than the queue, nothing stated", 1, queue, [("nothing", n)])
+    yield bar(run, "n = 64: 1.7 times as fast as the queue, something stated", 1.7, queue, [(kind, LARGEST) for kind in stated])
+    yield bar(run, "n = 8, sparse, medium, dense: no slower than the queue", 1, queue, [(kind, 8) for kind in ("sparse", "medium", "dense")])
+    for n in run.sizes:
+        yield bar(run, f"n = {n}, refused: at worst a third of the queue's speed", 1 / 3, queue, [(kind, n) for kind in run.refused()])
+    yield bar(run, "n = 64: 20 times as fast as plain C, accepted", 20, plain, [(kind, LARGEST) for kind in run.accepted()])
+
+
+def tables(run):
+    heads = ["n", "network", "rounds", "library, µs", *run.others]
+    steps = [f"{a} to {b}" for a, b in zip(run.sizes, run.sizes[1:])]
+    yield list(table(heads, times(run, run.accepted())))
+    yield list(table(heads, times(run, run.refused())))
+    yield list(table(["network", "program", *steps], growth(run)))
+    yield list(table(["program", "network", "gcc -O3", "gcc -O2", "clang -O3", "clang -O2"], compilers(run)))
+    if run.sizes[-1] == LARGEST:
+        yield list(table(["bar", "least found", "where", "met"], bars(run)))
+
+
+def main(arguments):
+    run = Run(arguments[0])
+    if len(arguments) == 1:
+        print("\n\n".join("\n".join(lines) for lines in tables(run)))
+        return 0
+    with open(arguments[1], encoding="utf-8") as file:
+        document = file.read()
+    missing = [lines for lines in tables(run) if "\n" + "\n".join(lines) + "\n" not in document]
+    for lines in missing:
+        print(f"{arguments[1]}: this table is not there, or is another:", *lines, sep="\n")
+    return 1 if missing else 0
+
+
+if len(sys.argv) not in (2, 3):
+    sys.exit(__doc__)
+sys.exit(main(sys.argv[1:]))
