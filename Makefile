@@ -7,6 +7,7 @@
 #   make compare                       the library compared with the second program, and with its faults
 #   make fuzz SEED=.. COUNT=..         the same comparison on other inputs
 #   make bench [OBJECT=..]             times beside other refinements
+#   make performance                   the documents' picture and tables from the last times
 #   make edit SCENE=.. [OUT=..]        the example host: shows a scene, and saves it to OUT
 #   make install PREFIX=..             libraries, headers, tools, manual pages and pkg-config file
 #   make uninstall PREFIX=..           takes them away again
@@ -47,7 +48,7 @@ STRICT_C = -std=c99 $(WARNINGS) -Iinclude
 STRICT_CXX = -std=c++11 $(WARNINGS) -Iinclude
 SANITIZED = -g -O1 -fsanitize=address,undefined -fno-sanitize-recover=all
 
-.PHONY: library report test host compare fuzz sanitized edit bench install uninstall clean help
+.PHONY: library report test host compare fuzz sanitized edit bench performance install uninstall clean help
 .DELETE_ON_ERROR:
 
 # ---- what is proved and compiled ----
@@ -147,6 +148,11 @@ bench: $(if $(OBJECT),,$(BUILD)/bench/bench)
 	else \
 		$(TOOLCHAIN) $$RUN $(BUILD)/bench/bench $(BUILD)/bench.csv 64 "$$RUN"; \
 	fi && echo "bench: every time is in $(BUILD)/bench.csv; docs/PERFORMANCE.md says what is made of it"
+
+performance:
+	bench/tables.py $(BUILD)/bench.csv docs/PERFORMANCE.md write
+	bench/picture.py $(BUILD)/bench.csv > docs/performance.svg
+	cp $(BUILD)/bench.csv docs/performance.csv
 
 $(BUILD)/bench/bench: $(BENCH_READS) $(ARCHIVE) | $(BUILD)
 	bench/build.sh $(BUILD)/bench $(ARCHIVE)

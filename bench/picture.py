@@ -47,10 +47,10 @@ class Axes:
     """Where a number of regions and a time lie in a field."""
 
     def __init__(self, run):
-        every = [time for made in run.times.values() for time in made.values()]
+        shown = [run.best(*key)[0] for key in run.times]
         self.sizes = run.sizes
-        self.low = math.floor(math.log10(min(every)))
-        self.high = max(math.ceil(math.log10(max(every))), self.low + 1)
+        self.low = math.floor(math.log10(min(shown)))
+        self.high = max(math.ceil(math.log10(max(shown))), self.low + 1)
 
     def across(self, n):
         span = max(math.log2(self.sizes[-1] / self.sizes[0]), 1)

@@ -1,6 +1,7 @@
 #!/usr/bin/env python3
 """tables.py FILE: prints, as tables of Markdown, what the file that bench writes says: the times, how they grow, what the compilers
-make of the C programs, and which bars are met. tables.py FILE DOCUMENT: whether all of these lines stand in the document."""
+make of the C programs, and which bars are met. tables.py FILE DOCUMENT: whether these tables stand in the document.
+tables.py FILE DOCUMENT write: puts each in the place of the one with the same head."""
 import sys
 
 from figures import LIBRARY, Run
@@ -27,7 +28,8 @@ def times(run, kinds):
     """The library's time, and how many times as long the others take by their best compilers."""
     for n in run.sizes:
         for kind in kinds:
-            cells = [str(n), kind, f"{run.rounds[kind, n]:.1f}", number(run.best(kind, n, LIBRARY)[0] / 1000)]
+            answered = [str(run.kinds[kind])] if run.kinds[kind] else []
+            cells = [str(n), kind, *answered, f"{run.rounds[kind, n]:.1f}", number(run.best(kind, n, LIBRARY)[0] / 1000)]
             for program in run.others:
                 by = run.best(kind, n, program)[1]
                 compiler = "" if program == "plain Rust" else f" ({by})"
@@ -49,7 +51,7 @@ def compilers(run):
     for program in ("plain C", "queue C"):
         for kind in run.accepted():
             made = run.times[kind, n, program]
-            yield row(program, kind, *(number(made["gcc -O2"] / made[by]) for by in sorted(made, reverse=True)))
+            yield row(program, kind, *(number(made["gcc -O2"] / made[by]) for by in ("gcc -O3", "clang -O2", "clang -O3")))
 
 
 def bar(run, said, least, program, places):
@@ -74,29 +76,45 @@ def bars(run):
 
 
 def tables(run):
-    heads = ["n", "network", "rounds", "library, µs", *run.others]
+    timed = ["rounds", "library, µs", *run.others]
     steps = [f"{a} to {b}" for a, b in zip(run.sizes, run.sizes[1:])]
-    yield list(table(heads, times(run, run.accepted())))
-    yield list(table(heads, times(run, run.refused())))
+    yield list(table(["n", "accepted", *timed], times(run, run.accepted())))
+    yield list(table(["n", "refused", "with", *timed], times(run, run.refused())))
     yield list(table(["network", "program", *steps], growth(run)))
-    yield list(table(["program", "network", "gcc -O3", "gcc -O2", "clang -O3", "clang -O2"], compilers(run)))
+    yield list(table(["made faster than by gcc -O2", "network", "gcc -O3", "clang -O2", "clang -O3"], compilers(run)))
     if run.sizes[-1] == LARGEST:
         yield list(table(["bar", "least found", "where", "met"], bars(run)))
 
 
-def main(arguments):
-    run = Run(arguments[0])
-    if len(arguments) == 1:
+def with_table(lines, new):
+    """The document's lines with a table in the place of the one with the same head."""
+    start = lines.index(new[0])
+    end = start
+    while end < len(lines) and lines[end].startswith("|"):
+        end += 1
+    return lines[:start] + new + lines[end:]
+
+
+def main(path, document=None, write=None):
+    run = Run(path)
+    if document is None:
         print("\n\n".join("\n".join(lines) for lines in tables(run)))
         return 0
-    with open(arguments[1], encoding="utf-8") as file:
-        document = file.read()
-    missing = [lines for lines in tables(run) if "\n" + "\n".join(lines) + "\n" not in document]
-    for lines in missing:
-        print(f"{arguments[1]}: this table is not there, or is another:", *lines, sep="\n")
-    return 1 if missing else 0
+    with open(document, encoding="utf-8") as file:
+        lines = file.read().split("\n")
+    changed = lines
+    for new in tables(run):
+        if new[0] not in lines:
+            sys.exit(f"{document}: there is no table with the head {new[0]}")
+        changed = with_table(changed, new)
+    if write is not None:
+        with open(document, "w", encoding="utf-8") as file:
+            file.write("\n".join(changed))
+    elif changed != lines:
+        sys.exit(f"{document}: a table is another than that of {path}")
+    return 0
 
 
-if len(sys.argv) not in (2, 3):
+if len(sys.argv) not in (2, 3, 4) or sys.argv[3:] not in ([], ["write"]):
     sys.exit(__doc__)
-sys.exit(main(sys.argv[1:]))
+sys.exit(main(*sys.argv[1:]))
