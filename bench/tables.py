@@ -10,8 +10,9 @@ LARGEST = 64
 
 
 def number(value):
-    """Three digits, or all before the point."""
-    return f"{value:,.0f}" if value >= 100 else f"{value:.1f}" if value >= 10 else f"{value:.2f}"
+    """Two digits at least, and all before the point."""
+    places = 0 if value >= 100 else 1 if value >= 10 else 2 if value >= 0.1 else 3
+    return f"{value:,.{places}f}"
 
 
 def row(*cells):
@@ -58,7 +59,7 @@ def bar(run, said, least, program, places):
     """One bar: the least of how many times the library's time the program took at these places, and whether it is enough."""
     kind, n = min(places, key=lambda place: run.times_library(*place, program))
     found = run.times_library(kind, n, program)
-    return row(said, f"{found:.2f}", f"{kind}, n = {n}", "yes" if found >= least else "no")
+    return row(said, number(found), f"{kind}, n = {n}", "yes" if found >= least else "no")
 
 
 def bars(run):
