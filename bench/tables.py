@@ -1,7 +1,7 @@
 #!/usr/bin/env python3
 """tables.py FILE: prints, as tables of Markdown, what the file that bench writes says: the times, how they grow, what the compilers
 make of the C programs, and which bars are met. tables.py FILE DOCUMENT: whether these tables stand in the document.
-tables.py FILE DOCUMENT write: puts each in the place of the one with the same head."""
+tables.py FILE DOCUMENT write: puts each in the place of the one with the same head, if the run was native."""
 import sys
 
 from figures import LIBRARY, Run
@@ -98,6 +98,8 @@ def with_table(lines, new):
 
 def main(path, document=None, write=None):
     run = Run(path)
+    if write is not None and not run.native:
+        sys.exit(f"{path}: not a native run: its times say nothing")
     if document is None:
         print("\n\n".join("\n".join(lines) for lines in tables(run)))
         return 0

@@ -116,7 +116,10 @@ shown() {
     python3 bench/tables.py docs/performance.csv docs/PERFORMANCE.md || return 1
     python3 bench/picture.py docs/performance.csv > "$WORK/performance.svg" && same docs/performance.svg "$WORK/performance.svg" || return 1
     sed '$s/,[0-9.]*$/,1.0/' docs/performance.csv > "$WORK/performance.csv"
-    ! python3 bench/tables.py "$WORK/performance.csv" docs/PERFORMANCE.md 2> /dev/null
+    ! python3 bench/tables.py "$WORK/performance.csv" docs/PERFORMANCE.md 2> /dev/null || { echo "a changed time was not noticed"; return 1; }
+    # Times of an emulator do not get into the document.
+    sed '/^# run natively$/d' docs/performance.csv > "$WORK/performance.csv" && cp docs/PERFORMANCE.md "$WORK/performance.md"
+    ! python3 bench/tables.py "$WORK/performance.csv" "$WORK/performance.md" write 2> /dev/null
 }
 
 making() {
