@@ -4,7 +4,8 @@ writes. Both axes are logarithmic and the same in every field; of a program made
 import math
 import sys
 
-from figures import LIBRARY, Run
+sys.dont_write_bytecode = True
+from figures import LIBRARY, Run  # noqa: E402
 
 # Colours that stay apart for the colour-blind; marks and dashes tell the lines apart in print.
 LOOKS = {

@@ -4,7 +4,8 @@ make of the C programs, and which bars are met. tables.py FILE DOCUMENT: whether
 tables.py FILE DOCUMENT write: puts each in the place of the one with the same head, if the run was native."""
 import sys
 
-from figures import LIBRARY, Run
+sys.dont_write_bytecode = True
+from figures import LIBRARY, Run  # noqa: E402
 
 LARGEST = 64
 
