@@ -1,11 +1,10 @@
 -- Cells that are read and searches that are made in areas of n² bytes are those of the matrix that stands there.
 use mathlib.Core.Path.{_≡_, ap, ap₂, _∙_}
 use mathlib.Core.List.{List}
-use Prim.Native.Nat.{ℕ, _*_, _<_, min}
-use native.Mathlib.Omega.{arith}
+use Prim.Native.Nat.{ℕ, _*_, _<_}
 use lib.ListN.{length}
 use Rattle.matrix.specs.Square.{Square}
-use Rattle.matrix.specs.Cells.{cell, cellOrEmpty, firstEmpty, firstChange}
+use Rattle.matrix.specs.Cells.{cell, cellOrEmpty, firstEmpty}
 use Rattle.matrix.proofs.CellLaws.{cell-there}
 
 -- a cell of the matrix is there
@@ -15,9 +14,3 @@ cell-in {m = m} square hi hj e = e ∙ cell-there m (square .few) hi hj
 module _ (n : ℕ) (m : List ℕ) {area : List ℕ} (made : area ≡ m) (size : length m ≡ n * n) where
   pub first-empty-in : {p : ℕ} → p ≡ firstEmpty (length area) area → p ≡ firstEmpty (n * n) m
   first-empty-in e = e ∙ ap₂ firstEmpty (ap length made ∙ size) made
-
-  pub first-change-in : (old : List ℕ) {p : ℕ} → length old ≡ n * n → p ≡ firstChange (min (length area) (length old)) area old
-      → p ≡ firstChange (n * n) m old
-  first-change-in old l e =
-      let all : min (length area) (length old) ≡ n * n = omega (arith, ap length made, size, l) in
-      e ∙ ap₂ (λ (k : ℕ) (a : List ℕ). firstChange k a old) all made
