@@ -15,7 +15,10 @@ same-length : tie.Need-same-length
 same-length c = search needs
 
 returns : tie.Need-returns
-returns c = c .before .before .give-rows .ensures ∙ given-all _ _ _ (sym (c .before .before .before .before .before .serves .ensures) ∙ c .before .before .before .before .if1 .taken)
+returns c =
+    let at-rows = c .before .before in
+    let at-if1 = at-rows .before .before in
+    at-rows .give-rows .ensures ∙ given-all _ _ _ (sym (at-if1 .before .serves .ensures) ∙ at-if1 .if1 .taken)
 
 returns-2 : tie.Need-returns-2
 returns-2 c = given-none _ _ _ (sym (c .before .serves .ensures) ∙ c .if1 .left)

@@ -81,16 +81,19 @@ loop-less c = search needs
 
 loop-again : tie.Need-loop-again Inv-loop μ-loop
 loop-again c =
-    let loop = c .before .before .before .before .before .before .loop in
-    let args = c .before .before .before .before .before .before .before .before .before .args in
-    let s = c .before .before .before .before .before .before .before .before .before .pre in
+    let at-load = c .before .before .before .before in
+    let at-loop = at-load .before .before in
+    let at-entry = at-loop .before .before .before in
+    let loop = at-loop .loop in
+    let args = at-entry .args in
+    let s = at-entry .pre in
     let f = row-fits (args .n) (loop .i) (omega arith) (s .few) in
     let from = loop .i * args .n in
     let part = mid-len from (from + args .n) (loop .cells) (omega (arith, f .row, s .size, loop .inv .1)) in (
       search needs,
       search needs,
       row-given (args .n) (args .planes .now) (args .cells .now) (loop .cells) (s .few) (s .size) (loop .i) (omega arith)
-          (from + args .n - from) _ _ (c .before .before .give-row .last .1 .0) (omega arith) (c .before .before .before .before .load .ensures)
+          (from + args .n - from) _ _ (c .before .before .give-row .last .1 .0) (omega arith) (at-load .load .ensures)
           (omega arith) (c .before .before .give-row .ensures) (loop .inv .2),
     )
 

@@ -67,9 +67,11 @@ take-row-requires c κs = search needs
 
 store-requires : tie.Need-store-requires Inv-loop μ-loop
 store-requires c κs =
-    let loop = c .before .before .before .before .loop in
-    let args = c .before .before .before .before .before .before .before .args in
-    let s = c .before .before .before .before .before .before .before .pre in
+    let at-loop = c .before .before .before .before in
+    let at-entry = at-loop .before .before .before in
+    let loop = at-loop .loop in
+    let args = at-entry .args in
+    let s = at-entry .pre in
     let f = row-fits (args .n) (loop .i) (omega arith) (s .few) in
     omega (arith, f .row, f .all, s .size, s .whole, loop .inv .1)
 
@@ -81,9 +83,12 @@ loop-less c = search needs
 
 loop-again : tie.Need-loop-again Inv-loop μ-loop
 loop-again c =
-    let loop = c .before .before .before .before .before .before .before .loop in
-    let args = c .before .before .before .before .before .before .before .before .before .before .args in
-    let s = c .before .before .before .before .before .before .before .before .before .before .pre in
+    let at-take-row = c .before .before .before in
+    let at-loop = at-take-row .before .before .before .before in
+    let at-entry = at-loop .before .before .before in
+    let loop = at-loop .loop in
+    let args = at-entry .args in
+    let s = at-entry .pre in
     let f = row-fits (args .n) (loop .i) (omega arith) (s .few) in
     let planes = matrixPlanes (args .n) (args .cells .now) in
     let long : length planes ≡ 8 * args .n = length-planes (args .n) (laneCell 64 (args .n) (args .cells .now)) in (
@@ -91,8 +96,9 @@ loop-again c =
       search needs,
       c .before .before .store .ensures
           ∙ block-laid planes (args .planes .now) (loop .planes) _ (loop .i) (omega arith) (s .whole ∙ sym long)
-          (row-block (args .n) (args .cells .now) (s .few) (s .size) (loop .i) (omega arith) (loop .i * args .n + args .n - loop .i * args .n) _ (omega arith)
-          (c .before .before .before .take-row .ensures))
+          (row-block (args .n) (args .cells .now) (s .few) (s .size) (loop .i) (omega arith) (loop .i * args .n + args .n - loop .i * args .n) _
+          (omega arith)
+          (at-take-row .take-row .ensures))
           (loop .inv .2),
     )
 

@@ -6,16 +6,25 @@ use lib.ListN.{length}
 use Rattle.lanes.specs.Places.{visited}
 use Rattle.lanes.proofs.LowestBit.{Left, left-start, left-next, visited-none}
 use Rattle.round.specs.Onward.{onwardOf}
-use Rattle.round.proofs.Going.{at-lowest, readying, onward-one}
+use Rattle.round.proofs.Going.{AtLowest, at-lowest, readying, onward-one}
 use borrow.Author.Needs.{needs}
 use Rattle.round.proofs.onward.spread_out.Statement.{statement}
 use Rattle.round.proofs.onward.spread_out.Tie as tie
 
 abbrev Inv-loop : tie.InvT-loop
-Inv-loop live old onward₀ left₀ onward left = Left left live × (length onward ≡ length onward₀) × (visited (readying old) onward left ≡ visited (readying old) onward₀ live)
+Inv-loop live old onward₀ left₀ onward left =
+    Left left live × (length onward ≡ length onward₀) × (visited (readying old) onward left ≡ visited (readying old) onward₀ live)
 
 abbrev μ-loop : tie.MeasureT-loop
 μ-loop live old onward₀ left₀ onward left = left
+
+-- the region that is looked at, seen from behind its finding: it is live, and its words are there
+looked-at : (c : tie.After-lowest Inv-loop μ-loop) → let entry = c .before .before .before .before .before .args in
+    AtLowest (c .before .before .loop .left) (length (entry .old .now)) (length (entry .onward .now)) (c .lowest .result)
+looked-at c =
+    let at-loop = c .before .before in
+    let at-entry = at-loop .before .before .before in
+    at-lowest _ (at-entry .args .live) _ _ _ (search needs) (omega arith) (at-loop .loop .inv .0) (at-entry .pre) (c .lowest .ensures)
 
 loop-holds : tie.Need-loop-holds Inv-loop μ-loop
 loop-holds c = (left-start _, search needs, refl)
@@ -28,88 +37,64 @@ without-lowest-requires c κs = search needs
 
 mul-from : tie.Need-mul-from Inv-loop μ-loop
 mul-from c =
-    let found = c .before .lowest in
-    let loop = c .before .before .before .loop in
-    let args = c .before .before .before .before .before .before .args in
-    let at = at-lowest (loop .left) (args .live) (length (args .old .now)) (length (args .onward .now)) (found .result) (search needs) (omega arith) (loop .inv .0) (c .before .before .before .before .before .before .pre) (found .ensures) in
-    omega (arith, loop .inv .1)
+    let at-found = c .before in
+    omega (arith, looked-at at-found, at-found .before .before .loop .inv .1)
 
 add-end : tie.Need-add-end Inv-loop μ-loop
 add-end c =
-    let found = c .before .lowest in
-    let loop = c .before .before .before .loop in
-    let args = c .before .before .before .before .before .before .args in
-    let at = at-lowest (loop .left) (args .live) (length (args .old .now)) (length (args .onward .now)) (found .result) (search needs) (omega arith) (loop .inv .0) (c .before .before .before .before .before .before .pre) (found .ensures) in
-    omega (arith, loop .inv .1)
+    let at-found = c .before in
+    omega (arith, looked-at at-found, at-found .before .before .loop .inv .1)
 
 load-requires : tie.Need-load-requires Inv-loop μ-loop
 load-requires c κs =
-    let found = c .before .lowest in
-    let loop = c .before .before .before .loop in
-    let args = c .before .before .before .before .before .before .args in
-    let at = at-lowest (loop .left) (args .live) (length (args .old .now)) (length (args .onward .now)) (found .result) (search needs) (omega arith) (loop .inv .0) (c .before .before .before .before .before .before .pre) (found .ensures) in
-    omega (arith, loop .inv .1)
+    let at-found = c .before in
+    omega (arith, looked-at at-found, at-found .before .before .loop .inv .1)
 
 mul-put-onward : tie.Need-mul-put-onward Inv-loop μ-loop
 mul-put-onward c =
-    let found = c .before .before .lowest in
-    let loop = c .before .before .before .before .loop in
-    let args = c .before .before .before .before .before .before .before .args in
-    let at = at-lowest (loop .left) (args .live) (length (args .old .now)) (length (args .onward .now)) (found .result) (search needs) (omega arith) (loop .inv .0) (c .before .before .before .before .before .before .before .pre) (found .ensures) in
-    omega (arith, loop .inv .1)
+    let at-found = c .before .before in
+    omega (arith, looked-at at-found, at-found .before .before .loop .inv .1)
 
 sub-put-onward : tie.Need-sub-put-onward Inv-loop μ-loop
 sub-put-onward c =
-    let found = c .before .before .lowest in
-    let loop = c .before .before .before .before .loop in
-    let args = c .before .before .before .before .before .before .before .args in
-    let at = at-lowest (loop .left) (args .live) (length (args .old .now)) (length (args .onward .now)) (found .result) (search needs) (omega arith) (loop .inv .0) (c .before .before .before .before .before .before .before .pre) (found .ensures) in
-    omega (arith, loop .inv .1)
+    let at-found = c .before .before in
+    omega (arith, looked-at at-found, at-found .before .before .loop .inv .1)
 
 part-put-onward-start : tie.Need-part-put-onward-start Inv-loop μ-loop
 part-put-onward-start c =
-    let found = c .before .before .lowest in
-    let loop = c .before .before .before .before .loop in
-    let args = c .before .before .before .before .before .before .before .args in
-    let at = at-lowest (loop .left) (args .live) (length (args .old .now)) (length (args .onward .now)) (found .result) (search needs) (omega arith) (loop .inv .0) (c .before .before .before .before .before .before .before .pre) (found .ensures) in
-    omega (arith, loop .inv .1)
+    let at-found = c .before .before in
+    omega (arith, looked-at at-found, at-found .before .before .loop .inv .1)
 
 part-put-onward-end : tie.Need-part-put-onward-end Inv-loop μ-loop
 part-put-onward-end c =
-    let found = c .before .before .lowest in
-    let loop = c .before .before .before .before .loop in
-    let args = c .before .before .before .before .before .before .before .args in
-    let at = at-lowest (loop .left) (args .live) (length (args .old .now)) (length (args .onward .now)) (found .result) (search needs) (omega arith) (loop .inv .0) (c .before .before .before .before .before .before .before .pre) (found .ensures) in
-    omega (arith, loop .inv .1)
+    let at-found = c .before .before in
+    omega (arith, looked-at at-found, at-found .before .before .loop .inv .1)
 
 put-onward-requires : tie.Need-put-onward-requires Inv-loop μ-loop
-put-onward-requires c κs =
-    let found = c .before .before .before .lowest in
-    let loop = c .before .before .before .before .before .loop in
-    let args = c .before .before .before .before .before .before .before .before .args in
-    let at = at-lowest (loop .left) (args .live) (length (args .old .now)) (length (args .onward .now)) (found .result) (search needs) (omega arith) (loop .inv .0) (c .before .before .before .before .before .before .before .before .pre) (found .ensures) in
-    search needs
+put-onward-requires c κs = let at = looked-at (c .before .before .before) in search needs
 
 loop-less : tie.Need-loop-less Inv-loop μ-loop
 loop-less c =
-    let found = c .before .before .before .before .before .before .lowest in
-    let loop = c .before .before .before .before .before .before .before .before .loop in
-    let args = c .before .before .before .before .before .before .before .before .before .before .before .args in
-    let at = at-lowest (loop .left) (args .live) (length (args .old .now)) (length (args .onward .now)) (found .result) (search needs) (omega arith) (loop .inv .0) (c .before .before .before .before .before .before .before .before .before .before .before .pre) (found .ensures) in
-    omega (arith, at .facts .less, c .before .before .before .before .before .without-lowest .ensures)
+    let at-rest = c .before .before .before .before .before in
+    omega (arith, looked-at (at-rest .before) .facts .less, at-rest .without-lowest .ensures)
 
 loop-again : tie.Need-loop-again Inv-loop μ-loop
 loop-again c =
-    let found = c .before .before .before .before .before .before .lowest in
-    let loop = c .before .before .before .before .before .before .before .before .loop in
-    let args = c .before .before .before .before .before .before .before .before .before .before .before .args in
-    let at = at-lowest (loop .left) (args .live) (length (args .old .now)) (length (args .onward .now)) (found .result) (search needs) (omega arith) (loop .inv .0) (c .before .before .before .before .before .before .before .before .before .before .before .pre) (found .ensures) in
-    let rest = c .before .before .before .before .before .without-lowest .ensures in
-    let put = c .before .before .put-onward in (
-      left-next _ _ _ (at .facts) rest (loop .inv .0),
+    let at-put = c .before .before in
+    let at-load = at-put .before .before in
+    let at-rest = at-load .before in
+    let at-found = at-rest .before in
+    let at-loop = at-found .before .before in
+    let args = at-loop .before .before .before .args in
+    let found = at-found .lowest in
+    let loop = at-loop .loop in
+    let facts = looked-at at-found .facts in
+    let rest = at-rest .without-lowest .ensures in
+    let put = at-put .put-onward in (
+      left-next _ _ _ facts rest (loop .inv .0),
       search needs,
-      onward-one (args .old .now) (loop .onward) (put .last .1 .0) _ (loop .left) (found .result) _ (64 * found .result + 64 - 64 * found .result) (at .facts) (found .ensures) rest
-          (c .before .before .before .before .load .ensures) (put .ensures) (omega arith)
+      onward-one (args .old .now) (loop .onward) (put .last .1 .0) _ (loop .left) (found .result) _
+          (64 * found .result + 64 - 64 * found .result) facts (found .ensures) rest (at-load .load .ensures) (put .ensures) (omega arith)
           ∙ loop .inv .2,
     )
 

@@ -25,16 +25,21 @@ load-requires c κs =
 
 chosen-requires : tie.Need-chosen-requires Inv-loop μ-loop
 chosen-requires c κs =
-    let ready = c .before .before .before .before .before .before .pre .0 in
+    let at-entry = c .before .before .before .before .before .before in
+    let ready = at-entry .pre .0 in
     omega (arith, ready .few)
 
 through-requires : tie.Need-through-requires Inv-loop μ-loop
-through-requires c κs = chosen-room _ _ _ _ _ _ _ _ (c .before .before .before .before .before .before .before .pre .0) (c .chosen .ensures)
+through-requires c κs =
+    let at-entry = c .before .before .before .before .before .before .before in
+    chosen-room _ _ _ _ _ _ _ _ (at-entry .pre .0) (c .chosen .ensures)
 
 store-requires : tie.Need-store-requires Inv-loop μ-loop
 store-requires c κs =
-    let ready = c .before .before .before .before .before .before .before .before .before .pre .0 in
-    let loop = c .before .before .before .before .before .loop in
+    let at-loop = c .before .before .before .before .before in
+    let at-entry = at-loop .before .before .before .before in
+    let ready = at-entry .pre .0 in
+    let loop = at-loop .loop in
     omega (arith, ready .made, loop .inv .long)
 
 empty-lane-requires : tie.Need-empty-lane-requires Inv-loop μ-loop
@@ -45,16 +50,24 @@ same-length c = search needs
 
 returns : tie.Need-returns Inv-loop μ-loop
 returns c =
-    let loop = c .before .before .before .before .before .before .before .before .before .before .loop in
-    let args = c .before .before .before .before .before .before .before .before .before .before .before .before .before .before .args in
-    let ready = c .before .before .before .before .before .before .before .before .before .before .before .before .before .before .pre .0 in
-    let load = c .before .before .before .before .before .before .before .before .load in
-    let chosen = c .before .before .before .before .before .before .before .chosen in
-    let through = c .before .before .before .before .before .before .through in
-    let made = turned-block (args .n) (args .live) (loop .b) (chosen .result) (args .old .now) (args .onward .now) (load .result) (through .result) _ _
-    ready (c .before .before .before .before .before .before .before .before .before .before .before .before .before .before .pre .1) (λ i. c .before .before .before .before .before .before .before .before .before .before .before .before .before .shared-slice-known .given i .fits) (omega arith) (load .ensures) (chosen .ensures)
+    let at-store = c .before .before .before .before in
+    let at-through = at-store .before .before in
+    let at-chosen = at-through .before in
+    let at-load = at-chosen .before in
+    let at-loop = at-load .before .before in
+    let at-shared-slice-known = at-loop .before .before .before in
+    let at-entry = at-shared-slice-known .before in
+    let loop = at-loop .loop in
+    let args = at-entry .args in
+    let ready = at-entry .pre .0 in
+    let load = at-load .load in
+    let chosen = at-chosen .chosen in
+    let through = at-through .through in
+    let made = turned-block (args .n) (args .live) (loop .b) (chosen .result) (args .old .now) (args .onward .now) (load .result)
+    (through .result) _ _
+    ready (at-entry .pre .1) (λ i. at-shared-slice-known .shared-slice-known .given i .fits) (omega arith) (load .ensures) (chosen .ensures)
     (through .ensures) in
-    let stored = c .before .before .before .before .store in
+    let stored = at-store .store in
     turning-stops (args .n) (args .live) (args .old .now) (args .new .now) (ready .few) (ready .whole) (ready .made)
     (loop .new) (through .result) (loop .changed) (loop .b) (omega arith) (loop .inv) made
     _ (c .before .empty-lane .result) (stored .ensures) (omega arith) (c .before .empty-lane .ensures)
@@ -70,19 +83,28 @@ loop-less c = search needs
 
 loop-again : tie.Need-loop-again Inv-loop μ-loop
 loop-again c =
-    let loop = c .before .before .before .before .before .before .before .before .before .before .before .loop in
-    let args = c .before .before .before .before .before .before .before .before .before .before .before .before .before .before .before .args in
-    let ready = c .before .before .before .before .before .before .before .before .before .before .before .before .before .before .before .pre .0 in
-    let load = c .before .before .before .before .before .before .before .before .before .load in
-    let chosen = c .before .before .before .before .before .before .before .before .chosen in
-    let through = c .before .before .before .before .before .before .before .through in
-    let made = turned-block (args .n) (args .live) (loop .b) (chosen .result) (args .old .now) (args .onward .now) (load .result) (through .result) _ _
-    ready (c .before .before .before .before .before .before .before .before .before .before .before .before .before .before .before .pre .1) (λ i. c .before .before .before .before .before .before .before .before .before .before .before .before .before .before .shared-slice-known .given i .fits) (omega arith) (load .ensures) (chosen .ensures)
+    let at-store = c .before .before .before .before .before in
+    let at-through = at-store .before .before in
+    let at-chosen = at-through .before in
+    let at-load = at-chosen .before in
+    let at-loop = at-load .before .before in
+    let at-shared-slice-known = at-loop .before .before .before in
+    let at-entry = at-shared-slice-known .before in
+    let loop = at-loop .loop in
+    let args = at-entry .args in
+    let ready = at-entry .pre .0 in
+    let load = at-load .load in
+    let chosen = at-chosen .chosen in
+    let through = at-through .through in
+    let made = turned-block (args .n) (args .live) (loop .b) (chosen .result) (args .old .now) (args .onward .now) (load .result)
+    (through .result) _ _
+    ready (at-entry .pre .1) (λ i. at-shared-slice-known .shared-slice-known .given i .fits) (omega arith) (load .ensures) (chosen .ensures)
     (through .ensures) in
-    let stored = c .before .before .before .before .before .store in
+    let stored = at-store .store in
     turning-goes (args .n) (args .live) (args .old .now) (args .new .now) (ready .few) (ready .whole) (ready .made)
     (loop .new) (through .result) (loop .changed) (loop .b) (omega arith) (loop .inv) made
-    _ (c .before .before .empty-lane .result) (c .differing .result) (stored .ensures) (omega arith) (c .before .before .empty-lane .ensures) (search needs)
+    _ (c .before .before .empty-lane .result) (c .differing .result) (stored .ensures) (omega arith) (c .before .before .empty-lane .ensures)
+    (search needs)
     (c .differing .ensures ∙ ap (λ (w : List ℕ). lanesThatDiffer (through .result) w) (load .ensures))
 
 same-length-2 : tie.Need-same-length-2 Inv-loop μ-loop

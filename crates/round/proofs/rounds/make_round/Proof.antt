@@ -8,7 +8,10 @@ spread-out-requires : tie.Need-spread-out-requires
 spread-out-requires c κs = ready-room (c .before .before .before .before .pre)
 
 make-blocks-requires : tie.Need-make-blocks-requires
-make-blocks-requires c κs = ready-words _ _ _ (search needs) (c .before .before .before .before .before .before .before .before .before .pre) (c .before .before .before .before .spread-out .ensures)
+make-blocks-requires c κs =
+    let at-spread-out = c .before .before .before .before in
+    let at-entry = at-spread-out .before .before .before .before .before in
+    ready-words _ _ _ (search needs) (at-entry .pre) (at-spread-out .spread-out .ensures)
 
 same-length : tie.Need-same-length
 same-length c = search needs

@@ -13,7 +13,10 @@ below-requires c κs = let s = served _ _ _ _ (sym (c .before .serves .ensures) 
 
 make-round-requires : tie.Need-make-round-requires
 make-round-requires c κs =
-    served-ready (c .before .before .before .before .before .before .before .before .args .live) _ (c .before .before .below .ensures) (served _ _ _ _ (sym (c .before .before .before .before .serves .ensures) ∙ c .before .before .before .if1 .taken))
+    let at-if1 = c .before .before .before in
+    let at-serves = at-if1 .before in
+    let at-entry = at-serves .before .before .before .before in
+    served-ready (at-entry .args .live) _ (c .before .before .below .ensures) (served _ _ _ _ (sym (at-serves .serves .ensures) ∙ at-if1 .if1 .taken))
 
 same-length : tie.Need-same-length
 same-length c = search needs
@@ -23,7 +26,12 @@ same-length-2 c = search needs
 
 returns : tie.Need-returns
 returns c =
-    rounds-made _ _ _ _ _ _ _ _ _ (sym (c .before .before .before .before .before .before .before .before .before .serves .ensures) ∙ c .before .before .before .before .before .before .before .before .if1 .taken) (c .before .before .before .before .before .before .before .below .ensures) (c .before .before .before .before .make-round .ensures)
+    let at-make-round = c .before .before .before .before in
+    let at-below = at-make-round .before .before .before in
+    let at-if1 = at-below .before in
+    let at-serves = at-if1 .before in
+    rounds-made _ _ _ _ _ _ _ _ _ (sym (at-serves .serves .ensures) ∙ at-if1 .if1 .taken) (at-below .below .ensures)
+    (at-make-round .make-round .ensures)
 
 returns-2 : tie.Need-returns-2
 returns-2 c = rounds-not-made _ _ _ _ _ (sym (c .before .serves .ensures) ∙ c .if1 .left)
