@@ -11,15 +11,6 @@ use Rattle.network.proofs.Handing.{hands-nothing, hands-area}
 use Rattle.network.proofs.network.Statement.{statement}
 use Rattle.network.proofs.network.Tie as tie
 
-enum-known-verdict : tie.Need-enum-known-verdict
-enum-known-verdict c = search needs
-
-in-range-requires : tie.Need-in-range-requires
-in-range-requires c κs = search needs
-
-slice-aggregate-result : tie.Need-slice-aggregate-result
-slice-aggregate-result c = search needs
-
 returns : tie.Need-returns
 returns c =
     let asked = c .before .before in
@@ -29,17 +20,11 @@ mul-size : tie.Need-mul-size
 mul-size c =
     let few = range-holds _ (sym (c .before .in-range .ensures) ∙ not-false _ (c .if1 .left)) .1 in omega (arith, mul-le-mul few few)
 
-slice-aggregate-result-2 : tie.Need-slice-aggregate-result-2
-slice-aggregate-result-2 c = search needs
-
 returns-2 : tie.Need-returns-2
 returns-2 c =
     let asked = c .before .before .before in
     hands-nothing _ _ _ _ _ _ _ _ (asked .before .before .verdict .given .1)
     (rw (sym (asked .in-range .ensures) ∙ not-false _ (c .before .before .if1 .left), lt-leb _ _ (c .before .if2 .taken)))
-
-slice-aggregate-result-3 : tie.Need-slice-aggregate-result-3
-slice-aggregate-result-3 c = search needs
 
 returns-3 : tie.Need-returns-3
 returns-3 c =
@@ -58,41 +43,8 @@ enum-told c = search needs
 slice-aggregate-result-4 : tie.Need-slice-aggregate-result-4
 slice-aggregate-result-4 c = sym (length-take-le _ _ (omega arith))
 
-enum-told-2 : tie.Need-enum-told-2
-enum-told-2 c = search needs
-
 slice-aggregate-result-5 : tie.Need-slice-aggregate-result-5
 slice-aggregate-result-5 c = sym (length-take-le _ _ (omega arith))
-
-enum-told-3 : tie.Need-enum-told-3
-enum-told-3 c = search needs
-
-slice-aggregate-result-6 : tie.Need-slice-aggregate-result-6
-slice-aggregate-result-6 c = search needs
-
-enum-told-4 : tie.Need-enum-told-4
-enum-told-4 c = search needs
-
-slice-aggregate-result-7 : tie.Need-slice-aggregate-result-7
-slice-aggregate-result-7 c = search needs
-
-enum-told-5 : tie.Need-enum-told-5
-enum-told-5 c = search needs
-
-slice-aggregate-result-8 : tie.Need-slice-aggregate-result-8
-slice-aggregate-result-8 c = search needs
-
-enum-told-6 : tie.Need-enum-told-6
-enum-told-6 c = search needs
-
-slice-aggregate-result-9 : tie.Need-slice-aggregate-result-9
-slice-aggregate-result-9 c = search needs
-
-enum-told-7 : tie.Need-enum-told-7
-enum-told-7 c = search needs
-
-slice-aggregate-result-10 : tie.Need-slice-aggregate-result-10
-slice-aggregate-result-10 c = search needs
 
 returns-4 : tie.Need-returns-4
 returns-4 c =
@@ -118,18 +70,6 @@ returns-5 c =
       le-leb _ _ (second .if3 .left),
     ))
 
-returns-6 : tie.Need-returns-6
-returns-6 c = search needs
-
-returns-7 : tie.Need-returns-7
-returns-7 c = search needs
-
-returns-8 : tie.Need-returns-8
-returns-8 c = search needs
-
-returns-9 : tie.Need-returns-9
-returns-9 c = search needs
-
 returns-10 : tie.Need-returns-10
 returns-10 c = search needs
 
@@ -137,33 +77,8 @@ pub network-spec : {M : Type 1} → statement M
 network-spec =
     tie.close
     (tie.spec
-    enum-known-verdict
-    in-range-requires
-    slice-aggregate-result
-    returns
-    mul-size
-    slice-aggregate-result-2
-    returns-2
-    slice-aggregate-result-3
-    returns-3
-    enum-told
-    slice-aggregate-result-4
-    enum-told-2
-    slice-aggregate-result-5
-    enum-told-3
-    slice-aggregate-result-6
-    enum-told-4
-    slice-aggregate-result-7
-    enum-told-5
-    slice-aggregate-result-8
-    enum-told-6
-    slice-aggregate-result-9
-    enum-told-7
-    slice-aggregate-result-10
-    returns-4
-    returns-5
-    returns-6
-    returns-7
-    returns-8
-    returns-9
-    returns-10)
+    (λ c. search needs) (λ c κs. search needs) (λ c. search needs) returns mul-size (λ c. search needs) returns-2
+    (λ c. search needs) returns-3 enum-told slice-aggregate-result-4 (λ c. search needs) slice-aggregate-result-5
+    (λ c. search needs) (λ c. search needs) (λ c. search needs) (λ c. search needs) (λ c. search needs) (λ c. search needs)
+    (λ c. search needs) (λ c. search needs) (λ c. search needs) (λ c. search needs) returns-4 returns-5 (λ c. search needs)
+    (λ c. search needs) (λ c. search needs) (λ c. search needs) returns-10)

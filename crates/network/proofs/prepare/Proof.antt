@@ -31,9 +31,6 @@ range c =
     let cells = c .before .before in
     limits-kept _ _ _ _ (in-range-at (cells .before)) (cells .if2 .left) (c .before .if3 .left) (c .if4 .left)
 
-in-range-requires : tie.Need-in-range-requires
-in-range-requires c κs = search needs
-
 returns : tie.Need-returns
 returns c =
     prepared-untouched _ _ _ _ (answer 1 0 0 0 0) _ (readied-outside _ _ _ _ (sym (c .before .in-range .ensures) ∙ not-true _ (c .if1 .taken)))
@@ -58,14 +55,8 @@ returns-4 c =
     prepared-untouched _ _ _ _ (answer 2 0 0 0 0) _
     (readied-short-second _ _ _ _ (in-range-at (cells .before)) (cells .if2 .left) (c .before .if3 .left) (c .if4 .taken)) refl refl
 
-slice-relend-prefix-make-ready : tie.Need-slice-relend-prefix-make-ready
-slice-relend-prefix-make-ready c = search needs
-
 slice-aggregate-make-ready : tie.Need-slice-aggregate-make-ready
 slice-aggregate-make-ready c = sym (length-take-le _ _ (omega arith))
-
-slice-relend-prefix-make-ready-2 : tie.Need-slice-relend-prefix-make-ready-2
-slice-relend-prefix-make-ready-2 c = search needs
 
 slice-aggregate-make-ready-2 : tie.Need-slice-aggregate-make-ready-2
 slice-aggregate-make-ready-2 c = sym (length-take-le _ _ (omega arith))
@@ -80,12 +71,6 @@ make-ready-requires c κs =
       record { some = some; few = few; size = length-take-le _ _ (r .second-long) },
     )
 
-same-length : tie.Need-same-length
-same-length c = search needs
-
-same-length-2 : tie.Need-same-length-2
-same-length-2 c = search needs
-
 returns-5 : tie.Need-returns-5
 returns-5 c =
     let ready = c .before .before .before .before in
@@ -95,17 +80,5 @@ pub prepare-spec : {M : Type 1} → statement M
 prepare-spec =
     tie.close
     (tie.spec
-    in-range-requires
-    returns
-    mul-size
-    returns-2
-    returns-3
-    returns-4
-    slice-relend-prefix-make-ready
-    slice-aggregate-make-ready
-    slice-relend-prefix-make-ready-2
-    slice-aggregate-make-ready-2
-    make-ready-requires
-    same-length
-    same-length-2
-    returns-5)
+    (λ c κs. search needs) returns mul-size returns-2 returns-3 returns-4 (λ c. search needs) slice-aggregate-make-ready
+    (λ c. search needs) slice-aggregate-make-ready-2 make-ready-requires (λ c. search needs) (λ c. search needs) returns-5)

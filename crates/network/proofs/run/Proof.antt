@@ -17,9 +17,6 @@ use Rattle.network.proofs.run.Tie as tie
 in-range-at : (c : tie.Else1) → inRange (c .before .before .before .before .args .n) ≡ true
 in-range-at c = sym (c .before .in-range .ensures) ∙ not-false _ (c .if1 .left)
 
-in-range-requires : tie.Need-in-range-requires
-in-range-requires c κs = search needs
-
 returns : tie.Need-returns
 returns c =
     ran-untouched _ _ _ _ _ 1 _ (ran-outside _ _ _ _ _ (sym (c .before .in-range .ensures) ∙ not-true _ (c .if1 .taken))) refl tt refl refl
@@ -34,14 +31,8 @@ returns-3 : tie.Need-returns-3
 returns-3 c =
     ran-untouched _ _ _ _ _ 2 _ (ran-short-second _ _ _ _ _ (in-range-at (c .before .before)) (c .before .if2 .left) (c .if3 .taken)) refl tt refl refl
 
-slice-relend-prefix-run : tie.Need-slice-relend-prefix-run
-slice-relend-prefix-run c = search needs
-
 slice-aggregate-run : tie.Need-slice-aggregate-run
 slice-aggregate-run c = sym (length-take-le _ _ (c .before .before .if2 .left))
-
-slice-relend-prefix-run-2 : tie.Need-slice-relend-prefix-run-2
-slice-relend-prefix-run-2 c = search needs
 
 slice-aggregate-run-2 : tie.Need-slice-aggregate-run-2
 slice-aggregate-run-2 c = sym (length-take-le _ _ (c .before .before .if3 .left))
@@ -54,12 +45,6 @@ run-requires c κs =
       record { some = r .0; few = r .1; size = length-take-le _ _ (checked .if3 .left) },
     )
 
-same-length : tie.Need-same-length
-same-length c = search needs
-
-same-length-2 : tie.Need-same-length-2
-same-length-2 c = search needs
-
 returns-4 : tie.Need-returns-4
 returns-4 c =
     let ran = c .before .before .before .before in
@@ -70,16 +55,5 @@ pub run-spec : {M : Type 1} → statement M
 run-spec =
     tie.close
     (tie.spec
-    in-range-requires
-    returns
-    mul-size
-    returns-2
-    returns-3
-    slice-relend-prefix-run
-    slice-aggregate-run
-    slice-relend-prefix-run-2
-    slice-aggregate-run-2
-    run-requires
-    same-length
-    same-length-2
-    returns-4)
+    (λ c κs. search needs) returns mul-size returns-2 returns-3 (λ c. search needs) slice-aggregate-run (λ c. search needs)
+    slice-aggregate-run-2 run-requires (λ c. search needs) (λ c. search needs) returns-4)

@@ -8,12 +8,6 @@ use Rattle.report_text.specs.Class.{classOf}
 use Rattle.report_text.proofs.class_of.Statement.{statement}
 use Rattle.report_text.proofs.class_of.Tie as tie
 
-size-requires : tie.Need-size-requires
-size-requires c κs = search needs
-
-size-requires-2 : tie.Need-size-requires-2
-size-requires-2 c κs = search needs
-
 -- the class by the sizes that were counted is the class of the sets
 counted : (c : tie.After-size2) {class : ℕ} → class ≡ classOf (c .before .size .result) (c .size2 .result)
     → class ≡ classOf (size (c .before .before .args .arc .0)) (size (c .before .before .args .refined .0))
@@ -52,4 +46,5 @@ returns-5 c =
 pub class-of-spec : {M : Type 1} → statement M
 class-of-spec =
     tie.close
-    (tie.spec size-requires size-requires-2 returns returns-2 returns-3 returns-4 returns-5)
+    (tie.spec
+    (λ c κs. search needs) (λ c κs. search needs) returns returns-2 returns-3 returns-4 returns-5)

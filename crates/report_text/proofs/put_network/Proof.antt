@@ -12,18 +12,6 @@ known : (c : tie.After-slice-known)
     → AcceptedMatrix (c .before .args .n) (now (c .before .args .stated)) (now (c .before .args .network)) (c .before .args .rounds)
 known c = record { stated-so = c .before .pre .0; ending = c .before .pre .1 }
 
-slice-aggregate-prepare : tie.Need-slice-aggregate-prepare
-slice-aggregate-prepare c = search needs
-
-slice-aggregate-prepare-2 : tie.Need-slice-aggregate-prepare-2
-slice-aggregate-prepare-2 c = search needs
-
-prepare-requires : tie.Need-prepare-requires
-prepare-requires c κs = search needs
-
-mul-first : tie.Need-mul-first
-mul-first c = search needs
-
 array-share-prefix-first : tie.Need-array-share-prefix-first
 array-share-prefix-first c =
     let at-prepare = c .before .before in
@@ -36,9 +24,6 @@ slice-aggregate-arcs c =
     let at-first = at-prepare .before .before in
     sym (arcs-long (known (at-first .before .before .before .before)) (at-prepare .prepare .ensures))
 
-put-accepted-requires : tie.Need-put-accepted-requires
-put-accepted-requires c κs = search needs
-
 put-pairs-requires : tie.Need-put-pairs-requires
 put-pairs-requires c κs =
     let at-put-accepted = c .before .before .before in
@@ -46,9 +31,6 @@ put-pairs-requires c κs =
     let at-first = at-prepare .before .before in
     let at-start = known (at-first .before .before .before .before) in
     network-paired at-start (omega (arith, arcs-long at-start (at-prepare .prepare .ensures), at-start .stated-so .size))
-
-same-length : tie.Need-same-length
-same-length c = search needs
 
 returns : tie.Need-returns
 returns c =
@@ -64,13 +46,5 @@ pub put-network-spec : {M : Type 1} → statement M
 put-network-spec =
     tie.close
     (tie.spec
-    slice-aggregate-prepare
-    slice-aggregate-prepare-2
-    prepare-requires
-    mul-first
-    array-share-prefix-first
-    slice-aggregate-arcs
-    put-accepted-requires
-    put-pairs-requires
-    same-length
-    returns)
+    (λ c. search needs) (λ c. search needs) (λ c κs. search needs) (λ c. search needs) array-share-prefix-first
+    slice-aggregate-arcs (λ c κs. search needs) put-pairs-requires (λ c. search needs) returns)

@@ -14,27 +14,6 @@ call c = record {
   identifiers-small = λ k. omega (arith, c .before .shared-slice-known .given k);
 }
 
-slice-aggregate-refine : tie.Need-slice-aggregate-refine
-slice-aggregate-refine c = search needs
-
-slice-aggregate-refine-2 : tie.Need-slice-aggregate-refine-2
-slice-aggregate-refine-2 c = search needs
-
-refine-requires : tie.Need-refine-requires
-refine-requires c κs = search needs
-
-enum-known-verdict : tie.Need-enum-known-verdict
-enum-known-verdict c = search needs
-
-slice-aggregate-network : tie.Need-slice-aggregate-network
-slice-aggregate-network c = search needs
-
-slice-aggregate-network-2 : tie.Need-slice-aggregate-network-2
-slice-aggregate-network-2 c = search needs
-
-network-requires : tie.Need-network-requires
-network-requires c κs = search needs
-
 put-network-requires : tie.Need-put-network-requires
 put-network-requires c κs =
     let at-network = c .before in
@@ -43,38 +22,8 @@ put-network-requires c κs =
     let known = call (at-refine .before .before .before) in
     (known .stated-so, accepted-network known (at-refine .refine .ensures) (at-verdict .verdict .given .1) (at-network .network .ensures) .ending)
 
-enum-known-verdict-2 : tie.Need-enum-known-verdict-2
-enum-known-verdict-2 c = search needs
-
-put-contradiction-requires : tie.Need-put-contradiction-requires
-put-contradiction-requires c κs = search needs
-
 enum-told : tie.Need-enum-told
 enum-told c = search needs
-
-put-refusal-requires : tie.Need-put-refusal-requires
-put-refusal-requires c κs = search needs
-
-enum-told-2 : tie.Need-enum-told-2
-enum-told-2 c = search needs
-
-put-refusal-requires-2 : tie.Need-put-refusal-requires-2
-put-refusal-requires-2 c κs = search needs
-
-enum-told-3 : tie.Need-enum-told-3
-enum-told-3 c = search needs
-
-put-refusal-requires-3 : tie.Need-put-refusal-requires-3
-put-refusal-requires-3 c κs = search needs
-
-enum-told-4 : tie.Need-enum-told-4
-enum-told-4 c = search needs
-
-put-refusal-requires-4 : tie.Need-put-refusal-requires-4
-put-refusal-requires-4 c κs = search needs
-
-same-length : tie.Need-same-length
-same-length c = search needs
 
 returns : tie.Need-returns
 returns c =
@@ -87,9 +36,6 @@ returns c =
     (accepted-network known (at-refine .refine .ensures) (at-verdict .verdict .given .1) (at-network .network .ensures))
     (at-put-network .put-network .ensures)
 
-same-length-2 : tie.Need-same-length-2
-same-length-2 c = search needs
-
 returns-2 : tie.Need-returns-2
 returns-2 c =
     let at-put-contradiction = c .before .before in
@@ -99,17 +45,11 @@ returns-2 c =
     contradiction-reports (call (at-before .before)) (at-refine .refine .ensures) (at-verdict2 .verdict2 .given .1)
     (at-put-contradiction .put-contradiction .ensures)
 
-same-length-3 : tie.Need-same-length-3
-same-length-3 c = search needs
-
 returns-3 : tie.Need-returns-3
 returns-3 c =
     let told = c .before .before .before .before in
     let refined = told .before .before .before .before in
     never-reports (call (refined .before .before .before)) (refined .refine .ensures) (told .enum-told .given .1) (λ x. x)
-
-same-length-4 : tie.Need-same-length-4
-same-length-4 c = search needs
 
 returns-4 : tie.Need-returns-4
 returns-4 c =
@@ -117,17 +57,11 @@ returns-4 c =
     let refined = told .before .before .before .before in
     never-reports (call (refined .before .before .before)) (refined .refine .ensures) (told .enum-told2 .given .1) (λ x. x)
 
-same-length-5 : tie.Need-same-length-5
-same-length-5 c = search needs
-
 returns-5 : tie.Need-returns-5
 returns-5 c =
     let told = c .before .before .before .before in
     let refined = told .before .before .before .before in
     never-reports (call (refined .before .before .before)) (refined .refine .ensures) (told .enum-told3 .given .1) (λ x. x)
-
-same-length-6 : tie.Need-same-length-6
-same-length-6 c = search needs
 
 returns-6 : tie.Need-returns-6
 returns-6 c =
@@ -139,33 +73,8 @@ pub put-refined-spec : {M : Type 1} → statement M
 put-refined-spec =
     tie.close
     (tie.spec
-    slice-aggregate-refine
-    slice-aggregate-refine-2
-    refine-requires
-    enum-known-verdict
-    slice-aggregate-network
-    slice-aggregate-network-2
-    network-requires
-    put-network-requires
-    enum-known-verdict-2
-    put-contradiction-requires
-    enum-told
-    put-refusal-requires
-    enum-told-2
-    put-refusal-requires-2
-    enum-told-3
-    put-refusal-requires-3
-    enum-told-4
-    put-refusal-requires-4
-    same-length
-    returns
-    same-length-2
-    returns-2
-    same-length-3
-    returns-3
-    same-length-4
-    returns-4
-    same-length-5
-    returns-5
-    same-length-6
-    returns-6)
+    (λ c. search needs) (λ c. search needs) (λ c κs. search needs) (λ c. search needs) (λ c. search needs) (λ c. search needs)
+    (λ c κs. search needs) put-network-requires (λ c. search needs) (λ c κs. search needs) enum-told (λ c κs. search needs)
+    (λ c. search needs) (λ c κs. search needs) (λ c. search needs) (λ c κs. search needs) (λ c. search needs)
+    (λ c κs. search needs) (λ c. search needs) returns (λ c. search needs) returns-2 (λ c. search needs) returns-3
+    (λ c. search needs) returns-4 (λ c. search needs) returns-5 (λ c. search needs) returns-6)

@@ -18,21 +18,6 @@ accepted : (c : tie.After-n)
     (c .n .given .0 .0)
 accepted c = accepted-read (c .before .before .before .before .read .ensures) (c .n .given .1)
 
-slice-aggregate-read : tie.Need-slice-aggregate-read
-slice-aggregate-read c = search needs
-
-slice-aggregate-read-2 : tie.Need-slice-aggregate-read-2
-slice-aggregate-read-2 c = search needs
-
-read-requires : tie.Need-read-requires
-read-requires c κs = search needs
-
-enum-known-n : tie.Need-enum-known-n
-enum-known-n c = search needs
-
-slice-aggregate-put-refined : tie.Need-slice-aggregate-put-refined
-slice-aggregate-put-refined c = search needs
-
 mul-stated : tie.Need-mul-stated
 mul-stated c = omega (arith, cells-few (accepted (c .before .before .before)))
 
@@ -50,27 +35,6 @@ put-refined-requires c κs = stated-front (accepted (c .before .before .before .
 
 enum-told : tie.Need-enum-told
 enum-told c = search needs
-
-put-refusal-requires : tie.Need-put-refusal-requires
-put-refusal-requires c κs = search needs
-
-enum-told-2 : tie.Need-enum-told-2
-enum-told-2 c = search needs
-
-put-refusal-requires-2 : tie.Need-put-refusal-requires-2
-put-refusal-requires-2 c κs = search needs
-
-enum-known-refusal : tie.Need-enum-known-refusal
-enum-known-refusal c = search needs
-
-number-requires : tie.Need-number-requires
-number-requires c κs = search needs
-
-cast-put-refusal : tie.Need-cast-put-refusal
-cast-put-refusal c = search needs
-
-put-refusal-requires-3 : tie.Need-put-refusal-requires-3
-put-refusal-requires-3 c κs = search needs
 
 returns : tie.Need-returns
 returns c = accepted-reported (accepted (c .before .before .before .before .before)) (omega arith) (c .put-refined .ensures)
@@ -102,24 +66,7 @@ pub report-spec : {M : Type 1} → statement M
 report-spec =
     tie.close
     (tie.spec
-    slice-aggregate-read
-    slice-aggregate-read-2
-    read-requires
-    enum-known-n
-    slice-aggregate-put-refined
-    mul-stated
-    array-share-prefix-stated
-    slice-aggregate-put-refined-2
-    put-refined-requires
-    enum-told
-    put-refusal-requires
-    enum-told-2
-    put-refusal-requires-2
-    enum-known-refusal
-    number-requires
-    cast-put-refusal
-    put-refusal-requires-3
-    returns
-    returns-2
-    returns-3
-    returns-4)
+    (λ c. search needs) (λ c. search needs) (λ c κs. search needs) (λ c. search needs) (λ c. search needs) mul-stated
+    array-share-prefix-stated slice-aggregate-put-refined-2 put-refined-requires enum-told (λ c κs. search needs)
+    (λ c. search needs) (λ c κs. search needs) (λ c. search needs) (λ c κs. search needs) (λ c. search needs)
+    (λ c κs. search needs) returns returns-2 returns-3 returns-4)

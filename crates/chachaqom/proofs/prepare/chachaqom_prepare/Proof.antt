@@ -7,24 +7,6 @@ use Rattle.chachaqom.proofs.prepare.chachaqom_prepare.Tie as tie
 returns : tie.Need-returns
 returns c = prepare-unfit _ _ _ _ _ (c .if1 .taken)
 
-prepare-requires : tie.Need-prepare-requires
-prepare-requires c κs = search needs
-
-of-start-requires : tie.Need-of-start-requires
-of-start-requires c κs = search needs
-
-put-answer-requires : tie.Need-put-answer-requires
-put-answer-requires c κs = search needs
-
-same-length : tie.Need-same-length
-same-length c = search needs
-
-same-length-2 : tie.Need-same-length-2
-same-length-2 c = search needs
-
-same-length-3 : tie.Need-same-length-3
-same-length-3 c = search needs
-
 returns-2 : tie.Need-returns-2
 returns-2 c =
     let at-put-answer = c .before .before in
@@ -37,11 +19,5 @@ pub chachaqom-prepare-spec : {M : Type 1} → statement M
 chachaqom-prepare-spec =
     tie.close
     (tie.spec
-    returns
-    prepare-requires
-    of-start-requires
-    put-answer-requires
-    same-length
-    same-length-2
-    same-length-3
-    returns-2)
+    returns (λ c κs. search needs) (λ c κs. search needs) (λ c κs. search needs) (λ c. search needs) (λ c. search needs)
+    (λ c. search needs) returns-2)

@@ -9,18 +9,6 @@ use Rattle.chachaqom.proofs.run.chachaqom_run.Tie as tie
 returns : tie.Need-returns
 returns c = run-unfit _ _ _ _ _ _ (c .if1 .taken)
 
-is-area-requires : tie.Need-is-area-requires
-is-area-requires c κs = search needs
-
-of-verdict-requires : tie.Need-of-verdict-requires
-of-verdict-requires c κs = search needs
-
-put-answer-requires : tie.Need-put-answer-requires
-put-answer-requires c κs = search needs
-
-same-length : tie.Need-same-length
-same-length c = search needs
-
 returns-2 : tie.Need-returns-2
 returns-2 c =
     let at-put-answer = c .before .before in
@@ -29,27 +17,6 @@ returns-2 c =
     let at-is-area = at-if2 .before in
     run-no-area (at-is-area .before .if1 .left) (sym (at-is-area .is-area .ensures) ∙ not-true _ (at-if2 .if2 .taken))
     (at-of-verdict .of-verdict .ensures) (at-put-answer .put-answer .ensures)
-
-area-of-requires : tie.Need-area-of-requires
-area-of-requires c κs = search needs
-
-run-requires : tie.Need-run-requires
-run-requires c κs = search needs
-
-of-verdict-requires-2 : tie.Need-of-verdict-requires-2
-of-verdict-requires-2 c κs = search needs
-
-put-answer-requires-2 : tie.Need-put-answer-requires-2
-put-answer-requires-2 c κs = search needs
-
-same-length-2 : tie.Need-same-length-2
-same-length-2 c = search needs
-
-same-length-3 : tie.Need-same-length-3
-same-length-3 c = search needs
-
-same-length-4 : tie.Need-same-length-4
-same-length-4 c = search needs
 
 returns-3 : tie.Need-returns-3
 returns-3 c =
@@ -66,17 +33,6 @@ pub chachaqom-run-spec : {M : Type 1} → statement M
 chachaqom-run-spec =
     tie.close
     (tie.spec
-    returns
-    is-area-requires
-    of-verdict-requires
-    put-answer-requires
-    same-length
-    returns-2
-    area-of-requires
-    run-requires
-    of-verdict-requires-2
-    put-answer-requires-2
-    same-length-2
-    same-length-3
-    same-length-4
-    returns-3)
+    returns (λ c κs. search needs) (λ c κs. search needs) (λ c κs. search needs) (λ c. search needs) returns-2
+    (λ c κs. search needs) (λ c κs. search needs) (λ c κs. search needs) (λ c κs. search needs) (λ c. search needs)
+    (λ c. search needs) (λ c. search needs) returns-3)

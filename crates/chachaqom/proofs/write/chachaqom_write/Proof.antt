@@ -17,21 +17,6 @@ returns c =
     let at-cells = c .before .before .before in
     write-unfit _ _ _ _ _ (identifiers-bytes (at-cells .before)) (cells-bytes at-cells) (c .if1 .taken)
 
-write-lent-requires : tie.Need-write-lent-requires
-write-lent-requires c κs = search needs
-
-of-writing-requires : tie.Need-of-writing-requires
-of-writing-requires c κs = search needs
-
-put-answer-requires : tie.Need-put-answer-requires
-put-answer-requires c κs = search needs
-
-same-length : tie.Need-same-length
-same-length c = search needs
-
-same-length-2 : tie.Need-same-length-2
-same-length-2 c = search needs
-
 returns-2 : tie.Need-returns-2
 returns-2 c =
     let written = c .before .before .before .before .before .before .before in
@@ -44,10 +29,5 @@ pub chachaqom-write-spec : {M : Type 1} → statement M
 chachaqom-write-spec =
     tie.close
     (tie.spec
-    returns
-    write-lent-requires
-    of-writing-requires
-    put-answer-requires
-    same-length
-    same-length-2
+    returns (λ c κs. search needs) (λ c κs. search needs) (λ c κs. search needs) (λ c. search needs) (λ c. search needs)
     returns-2)

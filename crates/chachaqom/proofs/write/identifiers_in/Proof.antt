@@ -19,24 +19,6 @@ loop-holds : tie.Need-loop-holds Inv-loop μ-loop
 unfolding numbersIn
 loop-holds c = (omega arith, refl, refl)
 
-mul-number-at : tie.Need-mul-number-at Inv-loop μ-loop
-mul-number-at c = omega arith
-
-number-at-requires : tie.Need-number-at-requires Inv-loop μ-loop
-number-at-requires c κs = search needs
-
-mul-identifiers : tie.Need-mul-identifiers Inv-loop μ-loop
-mul-identifiers c = omega arith
-
-array-write-identifiers : tie.Need-array-write-identifiers Inv-loop μ-loop
-array-write-identifiers c = omega arith
-
-add-place : tie.Need-add-place Inv-loop μ-loop
-add-place c = omega arith
-
-loop-less : tie.Need-loop-less Inv-loop μ-loop
-loop-less c = omega arith
-
 loop-again : tie.Need-loop-again Inv-loop μ-loop
 loop-again c =
     let loop = c .before .before .loop in (
@@ -56,14 +38,5 @@ pub identifiers-in-spec : {M : Type 1} → statement M
 identifiers-in-spec =
     tie.close
     (tie.spec
-    Inv-loop
-    μ-loop
-    loop-holds
-    mul-number-at
-    number-at-requires
-    mul-identifiers
-    array-write-identifiers
-    add-place
-    loop-less
-    loop-again
-    returns)
+    Inv-loop μ-loop loop-holds (λ c. omega arith) (λ c κs. search needs) (λ c. omega arith) (λ c. omega arith)
+    (λ c. omega arith) (λ c. omega arith) loop-again returns)

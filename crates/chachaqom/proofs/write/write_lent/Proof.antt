@@ -20,9 +20,6 @@ in-range c = sym (c .before .in-range .ensures) ∙ not-false _ (c .if1 .left)
 few : (c : tie.Else1) → c .before .before .before .before .before .args .n ≤ 64
 few c = range-holds (c .before .before .before .before .before .args .n) (in-range c) .1
 
-in-range-requires : tie.Need-in-range-requires
-in-range-requires c κs = search needs
-
 returns : tie.Need-returns
 returns c =
     let a = c .before .before .before .before .before .args in
@@ -47,12 +44,6 @@ slice-aggregate-write c =
     let a = c .before .before .before .before .before .before .before .before .args in
     sym (ap length (c .before .identifiers-in .ensures) ∙ length-numbers (a .n) (a .identifiers .now))
 
-write-requires : tie.Need-write-requires
-write-requires c κs = search needs
-
-same-length : tie.Need-same-length
-same-length c = search needs
-
 returns-3 : tie.Need-returns-3
 returns-3 c =
     let held = c .before .before .before .before .before in
@@ -63,13 +54,5 @@ pub write-lent-spec : {M : Type 1} → statement M
 write-lent-spec =
     tie.close
     (tie.spec
-    in-range-requires
-    returns
-    mul-if2
-    returns-2
-    identifiers-in-requires
-    array-share-prefix-numbers
-    slice-aggregate-write
-    write-requires
-    same-length
-    returns-3)
+    (λ c κs. search needs) returns mul-if2 returns-2 identifiers-in-requires array-share-prefix-numbers slice-aggregate-write
+    (λ c κs. search needs) (λ c. search needs) returns-3)

@@ -5,33 +5,6 @@ use Rattle.lanes.proofs.Wiring.{wired-by, wired-none, one-above}
 use Rattle.lanes.proofs.along.composed.Statement.{statement}
 use Rattle.lanes.proofs.along.composed.Tie as tie
 
-apart-requires : tie.Need-apart-requires
-apart-requires c κs = search needs
-
-disjoint-requires : tie.Need-disjoint-requires
-disjoint-requires c κs = search needs
-
-meet-requires : tie.Need-meet-requires
-meet-requires c κs = search needs
-
-equal-requires : tie.Need-equal-requires
-equal-requires c κs = search needs
-
-inside-requires : tie.Need-inside-requires
-inside-requires c κs = search needs
-
-covered-by-requires : tie.Need-covered-by-requires
-covered-by-requires c κs = search needs
-
-contains-requires : tie.Need-contains-requires
-contains-requires c κs = search needs
-
-covers-requires : tie.Need-covers-requires
-covers-requires c κs = search needs
-
-overlap-requires : tie.Need-overlap-requires
-overlap-requires c κs = search needs
-
 returns : tie.Need-returns
 returns c = wired-by _ 0 _ _ _ (c .before .match .keys1) (c .before .before .apart .ensures) (c .disjoint .ensures)
 
@@ -74,21 +47,6 @@ pub composed-spec : {M : Type 1} → statement M
 composed-spec =
     tie.close
     (tie.spec
-    apart-requires
-    disjoint-requires
-    meet-requires
-    equal-requires
-    inside-requires
-    covered-by-requires
-    contains-requires
-    covers-requires
-    overlap-requires
-    returns
-    returns-2
-    returns-3
-    returns-4
-    returns-5
-    returns-6
-    returns-7
-    returns-8
-    returns-9)
+    (λ c κs. search needs) (λ c κs. search needs) (λ c κs. search needs) (λ c κs. search needs) (λ c κs. search needs)
+    (λ c κs. search needs) (λ c κs. search needs) (λ c κs. search needs) (λ c κs. search needs) returns returns-2 returns-3
+    returns-4 returns-5 returns-6 returns-7 returns-8 returns-9)

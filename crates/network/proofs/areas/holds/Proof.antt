@@ -7,11 +7,11 @@ use Rattle.network.proofs.areas.holds.Tie as tie
 returns : tie.Need-returns
 returns c = rw (eq-eqb _ _ (c .if1 .taken))
 
-other-requires : tie.Need-other-requires
-other-requires c κs = search needs
-
 returns-2 : tie.Need-returns-2
 returns-2 c = rw (ne-eqb _ _ (c .before .if1 .left)) (c .other .ensures)
 
 pub holds-spec : {M : Type 1} → statement M
-holds-spec = tie.close (tie.spec returns other-requires returns-2)
+holds-spec =
+    tie.close
+    (tie.spec
+    returns (λ c κs. search needs) returns-2)

@@ -6,15 +6,6 @@ use Rattle.network.proofs.Running.{composed-by-listed}
 use Rattle.network.proofs.emptied.along.Statement.{statement}
 use Rattle.network.proofs.emptied.along.Tie as tie
 
-at-requires : tie.Need-at-requires
-at-requires c κs = search needs
-
-at-requires-2 : tie.Need-at-requires-2
-at-requires-2 c κs = search needs
-
-compose-by-requires : tie.Need-compose-by-requires
-compose-by-requires c κs = search needs
-
 returns : tie.Need-returns
 returns c =
     let start = c .before .before .before .before in
@@ -23,4 +14,7 @@ returns c =
     composed-by-listed (start .pre .3) (omega arith) own onward (c .compose-by .ensures)
 
 pub along-spec : {M : Type 1} → statement M
-along-spec = tie.close (tie.spec at-requires at-requires-2 compose-by-requires returns)
+along-spec =
+    tie.close
+    (tie.spec
+    (λ c κs. search needs) (λ c κs. search needs) (λ c κs. search needs) returns)

@@ -13,9 +13,6 @@ Inv-loop entries n old i j set₀ k₀ set k = Running n old i j k (set .0)
 abbrev μ-loop : tie.MeasureT-loop
 μ-loop entries n old i j set₀ k₀ set k = n - k
 
-at-requires : tie.Need-at-requires Inv-loop μ-loop
-at-requires c κs = search needs
-
 loop-holds : tie.Need-loop-holds Inv-loop μ-loop
 loop-holds c =
     let start = c .before .before in
@@ -23,27 +20,12 @@ loop-holds c =
     let cell = cell-in (start .pre .3) (start .pre .0) (start .pre .1) (c .at .ensures) in
     running-starts _ _ _ _ _ cell (c .before .shared-slice-known .given (a .i * a .n + a .j) .fits)
 
-along-requires : tie.Need-along-requires Inv-loop μ-loop
-along-requires c κs = search needs
-
-intersect-requires : tie.Need-intersect-requires Inv-loop μ-loop
-intersect-requires c κs = search needs
-
-is-empty-requires : tie.Need-is-empty-requires Inv-loop μ-loop
-is-empty-requires c κs = search needs
-
 returns : tie.Need-returns Inv-loop μ-loop
 returns c =
     let narrowed = c .before .before in
     let turn = narrowed .before .before in
     running-out (turn .before .loop .inv) (turn .loop-test .taken) _ _ (narrowed .before .along .ensures)
     (narrowed .intersect .ensures) _ (c .before .is-empty .ensures) (c .if1 .taken)
-
-add-k : tie.Need-add-k Inv-loop μ-loop
-add-k c = search needs
-
-loop-less : tie.Need-loop-less Inv-loop μ-loop
-loop-less c = search needs
 
 loop-again : tie.Need-loop-again Inv-loop μ-loop
 loop-again c =
@@ -59,15 +41,5 @@ pub ran-out-by-spec : {M : Type 1} → statement M
 ran-out-by-spec =
     tie.close
     (tie.spec
-    Inv-loop
-    μ-loop
-    at-requires
-    loop-holds
-    along-requires
-    intersect-requires
-    is-empty-requires
-    returns
-    add-k
-    loop-less
-    loop-again
-    returns-2)
+    Inv-loop μ-loop (λ c κs. search needs) loop-holds (λ c κs. search needs) (λ c κs. search needs) (λ c κs. search needs)
+    returns (λ c. search needs) (λ c. search needs) loop-again returns-2)

@@ -8,24 +8,6 @@ use Rattle.network.specs.Areas.{holds}
 use Rattle.network.proofs.leaving.accept.Statement.{statement}
 use Rattle.network.proofs.leaving.accept.Tie as tie
 
-give-requires : tie.Need-give-requires
-give-requires c κs = search needs
-
-give-requires-2 : tie.Need-give-requires-2
-give-requires-2 c κs = search needs
-
-other-requires : tie.Need-other-requires
-other-requires c κs = search needs
-
-holds-requires : tie.Need-holds-requires
-holds-requires c κs = search needs
-
-same-length : tie.Need-same-length
-same-length c = search needs
-
-same-length-2 : tie.Need-same-length-2
-same-length-2 c = search needs
-
 returns : tie.Need-returns
 returns c =
     let both = c .before .before .before .before in
@@ -42,10 +24,5 @@ pub accept-spec : {M : Type 1} → statement M
 accept-spec =
     tie.close
     (tie.spec
-    give-requires
-    give-requires-2
-    other-requires
-    holds-requires
-    same-length
-    same-length-2
-    returns)
+    (λ c κs. search needs) (λ c κs. search needs) (λ c κs. search needs) (λ c κs. search needs) (λ c. search needs)
+    (λ c. search needs) returns)

@@ -9,27 +9,6 @@ use Rattle.network.proofs.leaving.give_both.Tie as tie
 enum-told : tie.Need-enum-told
 enum-told c = search needs
 
-give-requires : tie.Need-give-requires
-give-requires c κs = search needs
-
-give-requires-2 : tie.Need-give-requires-2
-give-requires-2 c κs = search needs
-
-enum-told-2 : tie.Need-enum-told-2
-enum-told-2 c = search needs
-
-give-requires-3 : tie.Need-give-requires-3
-give-requires-3 c κs = search needs
-
-give-requires-4 : tie.Need-give-requires-4
-give-requires-4 c κs = search needs
-
-same-length : tie.Need-same-length
-same-length c = search needs
-
-same-length-2 : tie.Need-same-length-2
-same-length-2 c = search needs
-
 returns : tie.Need-returns
 returns c =
     let both = c .before .before in
@@ -40,12 +19,6 @@ returns c =
     shares-first _ _ _ _ _ _ (named .enum-told .given .1)
     (one .give .ensures ∙ gives (start .pre .2) (a .new .now) (start .pre .1))
     (both .give2 .ensures ∙ gives (start .pre .3) (a .old .now) (start .pre .0))
-
-same-length-3 : tie.Need-same-length-3
-same-length-3 c = search needs
-
-same-length-4 : tie.Need-same-length-4
-same-length-4 c = search needs
 
 returns-2 : tie.Need-returns-2
 returns-2 c =
@@ -62,15 +35,5 @@ pub give-both-spec : {M : Type 1} → statement M
 give-both-spec =
     tie.close
     (tie.spec
-    enum-told
-    give-requires
-    give-requires-2
-    enum-told-2
-    give-requires-3
-    give-requires-4
-    same-length
-    same-length-2
-    returns
-    same-length-3
-    same-length-4
-    returns-2)
+    enum-told (λ c κs. search needs) (λ c κs. search needs) (λ c. search needs) (λ c κs. search needs) (λ c κs. search needs)
+    (λ c. search needs) (λ c. search needs) returns (λ c. search needs) (λ c. search needs) returns-2)

@@ -13,21 +13,6 @@ use Rattle.network.proofs.Left.{size-of}
 use Rattle.network.proofs.leaving.refuse.Statement.{statement}
 use Rattle.network.proofs.leaving.refuse.Tie as tie
 
-give-requires : tie.Need-give-requires
-give-requires c κs = search needs
-
-ran-out-requires : tie.Need-ran-out-requires
-ran-out-requires c κs = search needs
-
-clear-requires : tie.Need-clear-requires
-clear-requires c κs = search needs
-
-same-length : tie.Need-same-length
-same-length c = search needs
-
-same-length-2 : tie.Need-same-length-2
-same-length-2 c = search needs
-
 returns : tie.Need-returns
 returns c =
     let cleared = c .before .before .before .before in
@@ -49,4 +34,5 @@ returns c =
 pub refuse-spec : {M : Type 1} → statement M
 refuse-spec =
     tie.close
-    (tie.spec give-requires ran-out-requires clear-requires same-length same-length-2 returns)
+    (tie.spec
+    (λ c κs. search needs) (λ c κs. search needs) (λ c κs. search needs) (λ c. search needs) (λ c. search needs) returns)

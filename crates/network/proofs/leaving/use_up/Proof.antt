@@ -4,20 +4,8 @@ use Rattle.network.proofs.Left.{stops-none, stops-some}
 use Rattle.network.proofs.leaving.use_up.Statement.{statement}
 use Rattle.network.proofs.leaving.use_up.Tie as tie
 
-holds-requires : tie.Need-holds-requires
-holds-requires c κs = search needs
-
 returns : tie.Need-returns
 returns c = stops-none _ _ _ _ _ _ _ _ (c .before .holds .ensures) (c .if1 .taken)
-
-give-both-requires : tie.Need-give-both-requires
-give-both-requires c κs = search needs
-
-same-length : tie.Need-same-length
-same-length c = search needs
-
-same-length-2 : tie.Need-same-length-2
-same-length-2 c = search needs
 
 returns-2 : tie.Need-returns-2
 returns-2 c =
@@ -28,4 +16,5 @@ returns-2 c =
 pub use-up-spec : {M : Type 1} → statement M
 use-up-spec =
     tie.close
-    (tie.spec holds-requires returns give-both-requires same-length same-length-2 returns-2)
+    (tie.spec
+    (λ c κs. search needs) returns (λ c κs. search needs) (λ c. search needs) (λ c. search needs) returns-2)

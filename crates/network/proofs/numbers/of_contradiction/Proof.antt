@@ -3,24 +3,6 @@ use borrow.Author.Needs.{needs}
 use Rattle.network.proofs.numbers.of_contradiction.Statement.{statement}
 use Rattle.network.proofs.numbers.of_contradiction.Tie as tie
 
-enum-known-contradiction : tie.Need-enum-known-contradiction
-enum-known-contradiction c = search needs
-
-tell-requires : tie.Need-tell-requires
-tell-requires c κs = search needs
-
-enum-known-contradiction-2 : tie.Need-enum-known-contradiction-2
-enum-known-contradiction-2 c = search needs
-
-tell-requires-2 : tie.Need-tell-requires-2
-tell-requires-2 c κs = search needs
-
-enum-known-contradiction-3 : tie.Need-enum-known-contradiction-3
-enum-known-contradiction-3 c = search needs
-
-tell-requires-3 : tie.Need-tell-requires-3
-tell-requires-3 c κs = search needs
-
 returns : tie.Need-returns
 returns c = rw (c .before .before .contradiction .given .1) (c .tell .ensures)
 
@@ -34,12 +16,5 @@ pub of-contradiction-spec : {M : Type 1} → statement M
 of-contradiction-spec =
     tie.close
     (tie.spec
-    enum-known-contradiction
-    tell-requires
-    enum-known-contradiction-2
-    tell-requires-2
-    enum-known-contradiction-3
-    tell-requires-3
-    returns
-    returns-2
-    returns-3)
+    (λ c. search needs) (λ c κs. search needs) (λ c. search needs) (λ c κs. search needs) (λ c. search needs)
+    (λ c κs. search needs) returns returns-2 returns-3)

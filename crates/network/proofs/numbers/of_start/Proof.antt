@@ -6,27 +6,6 @@ use Rattle.network.proofs.numbers.of_start.Tie as tie
 enum-told : tie.Need-enum-told
 enum-told c = search needs
 
-tell-requires : tie.Need-tell-requires
-tell-requires c κs = search needs
-
-enum-known-start : tie.Need-enum-known-start
-enum-known-start c = search needs
-
-of-contradiction-requires : tie.Need-of-contradiction-requires
-of-contradiction-requires c κs = search needs
-
-enum-told-2 : tie.Need-enum-told-2
-enum-told-2 c = search needs
-
-tell-requires-2 : tie.Need-tell-requires-2
-tell-requires-2 c κs = search needs
-
-enum-told-3 : tie.Need-enum-told-3
-enum-told-3 c = search needs
-
-tell-requires-3 : tie.Need-tell-requires-3
-tell-requires-3 c κs = search needs
-
 returns : tie.Need-returns
 returns c = rw (c .before .enum-told .given .1) (c .tell .ensures)
 
@@ -43,15 +22,5 @@ pub of-start-spec : {M : Type 1} → statement M
 of-start-spec =
     tie.close
     (tie.spec
-    enum-told
-    tell-requires
-    enum-known-start
-    of-contradiction-requires
-    enum-told-2
-    tell-requires-2
-    enum-told-3
-    tell-requires-3
-    returns
-    returns-2
-    returns-3
-    returns-4)
+    enum-told (λ c κs. search needs) (λ c. search needs) (λ c κs. search needs) (λ c. search needs) (λ c κs. search needs)
+    (λ c. search needs) (λ c κs. search needs) returns returns-2 returns-3 returns-4)

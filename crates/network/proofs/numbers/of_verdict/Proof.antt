@@ -3,44 +3,8 @@ use borrow.Author.Needs.{needs}
 use Rattle.network.proofs.numbers.of_verdict.Statement.{statement}
 use Rattle.network.proofs.numbers.of_verdict.Tie as tie
 
-enum-known-verdict : tie.Need-enum-known-verdict
-enum-known-verdict c = search needs
-
-tell-requires : tie.Need-tell-requires
-tell-requires c κs = search needs
-
-enum-known-verdict-2 : tie.Need-enum-known-verdict-2
-enum-known-verdict-2 c = search needs
-
-of-contradiction-requires : tie.Need-of-contradiction-requires
-of-contradiction-requires c κs = search needs
-
-enum-known-verdict-3 : tie.Need-enum-known-verdict-3
-enum-known-verdict-3 c = search needs
-
-of-area-requires : tie.Need-of-area-requires
-of-area-requires c κs = search needs
-
-tell-requires-2 : tie.Need-tell-requires-2
-tell-requires-2 c κs = search needs
-
 enum-told : tie.Need-enum-told
 enum-told c = search needs
-
-tell-requires-3 : tie.Need-tell-requires-3
-tell-requires-3 c κs = search needs
-
-enum-told-2 : tie.Need-enum-told-2
-enum-told-2 c = search needs
-
-tell-requires-4 : tie.Need-tell-requires-4
-tell-requires-4 c κs = search needs
-
-enum-told-3 : tie.Need-enum-told-3
-enum-told-3 c = search needs
-
-tell-requires-5 : tie.Need-tell-requires-5
-tell-requires-5 c κs = search needs
 
 returns : tie.Need-returns
 returns c = rw (c .before .before .verdict .given .1) (c .tell .ensures)
@@ -64,22 +28,6 @@ pub of-verdict-spec : {M : Type 1} → statement M
 of-verdict-spec =
     tie.close
     (tie.spec
-    enum-known-verdict
-    tell-requires
-    enum-known-verdict-2
-    of-contradiction-requires
-    enum-known-verdict-3
-    of-area-requires
-    tell-requires-2
-    enum-told
-    tell-requires-3
-    enum-told-2
-    tell-requires-4
-    enum-told-3
-    tell-requires-5
-    returns
-    returns-2
-    returns-3
-    returns-4
-    returns-5
-    returns-6)
+    (λ c. search needs) (λ c κs. search needs) (λ c. search needs) (λ c κs. search needs) (λ c. search needs)
+    (λ c κs. search needs) (λ c κs. search needs) enum-told (λ c κs. search needs) (λ c. search needs) (λ c κs. search needs)
+    (λ c. search needs) (λ c κs. search needs) returns returns-2 returns-3 returns-4 returns-5 returns-6)

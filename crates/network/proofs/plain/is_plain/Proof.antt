@@ -38,12 +38,6 @@ returns : tie.Need-returns Inv-loop μ-loop
 returns c =
     is-unplain _ _ _ (c .before .before .before .loop .inv .1) (omega arith) (ap not (sym (c .before .is-plain-cell .ensures)) ∙ c .if1 .taken)
 
-add-place : tie.Need-add-place Inv-loop μ-loop
-add-place c = search needs
-
-loop-less : tie.Need-loop-less Inv-loop μ-loop
-loop-less c = search needs
-
 loop-again : tie.Need-loop-again Inv-loop μ-loop
 loop-again c = (
   search needs,
@@ -57,14 +51,5 @@ pub is-plain-spec : {M : Type 1} → statement M
 is-plain-spec =
     tie.close
     (tie.spec
-    Inv-loop
-    μ-loop
-    loop-holds
-    div-is-plain-cell
-    rem-is-plain-cell
-    is-plain-cell-requires
-    returns
-    add-place
-    loop-less
-    loop-again
-    returns-2)
+    Inv-loop μ-loop loop-holds div-is-plain-cell rem-is-plain-cell is-plain-cell-requires returns (λ c. search needs)
+    (λ c. search needs) loop-again returns-2)

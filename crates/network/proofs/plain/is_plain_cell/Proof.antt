@@ -16,23 +16,11 @@ opposite : (c : tie.After-at2)
 opposite c =
     let pre = c .before .before .before .before .before .pre in cell-in (pre .2) (pre .1) (pre .0) (c .at2 .ensures)
 
-at-requires : tie.Need-at-requires
-at-requires c κs = search needs
-
-is-empty-requires : tie.Need-is-empty-requires
-is-empty-requires c κs = search needs
-
 returns : tie.Need-returns
 returns c =
     let read = c .before .before in
     let a = read .before .before .args in
     unplain-empty (a .n) (a .cells .now) (a .i) (a .j) _ (own read) _ (c .before .is-empty .ensures) (c .if1 .taken)
-
-at-requires-2 : tie.Need-at-requires-2
-at-requires-2 c κs = search needs
-
-converse-requires : tie.Need-converse-requires
-converse-requires c κs = search needs
 
 returns-2 : tie.Need-returns-2
 returns-2 c =
@@ -63,11 +51,5 @@ pub is-plain-cell-spec : {M : Type 1} → statement M
 is-plain-cell-spec =
     tie.close
     (tie.spec
-    at-requires
-    is-empty-requires
-    returns
-    at-requires-2
-    converse-requires
-    returns-2
-    returns-3
+    (λ c κs. search needs) (λ c κs. search needs) returns (λ c κs. search needs) (λ c κs. search needs) returns-2 returns-3
     returns-4)

@@ -6,15 +6,6 @@ use Rattle.network.proofs.plain.is_plain_in.Tie as tie
 enum-told : tie.Need-enum-told
 enum-told c = search needs
 
-is-plain-requires : tie.Need-is-plain-requires
-is-plain-requires c κs = search needs
-
-enum-told-2 : tie.Need-enum-told-2
-enum-told-2 c = search needs
-
-is-plain-requires-2 : tie.Need-is-plain-requires-2
-is-plain-requires-2 c κs = search needs
-
 returns : tie.Need-returns
 returns c = rw (c .before .enum-told .given .1) (c .is-plain .ensures)
 
@@ -24,4 +15,5 @@ returns-2 c = rw (c .before .enum-told2 .given .1) (c .is-plain2 .ensures)
 pub is-plain-in-spec : {M : Type 1} → statement M
 is-plain-in-spec =
     tie.close
-    (tie.spec enum-told is-plain-requires enum-told-2 is-plain-requires-2 returns returns-2)
+    (tie.spec
+    enum-told (λ c κs. search needs) (λ c. search needs) (λ c κs. search needs) returns returns-2)

@@ -4,18 +4,6 @@ use Rattle.network.proofs.Prepared.{arc-of-nodes}
 use Rattle.network.proofs.preparing.arc_cell.Statement.{statement}
 use Rattle.network.proofs.preparing.arc_cell.Tie as tie
 
-node-cell-requires : tie.Need-node-cell-requires
-node-cell-requires c κs = search needs
-
-converse-requires : tie.Need-converse-requires
-converse-requires c κs = search needs
-
-node-cell-requires-2 : tie.Need-node-cell-requires-2
-node-cell-requires-2 c κs = search needs
-
-intersect-requires : tie.Need-intersect-requires
-intersect-requires c κs = search needs
-
 returns : tie.Need-returns
 returns c =
     let s = c .before .before .before .before .before .pre in
@@ -25,4 +13,5 @@ returns c =
 pub arc-cell-spec : {M : Type 1} → statement M
 arc-cell-spec =
     tie.close
-    (tie.spec node-cell-requires converse-requires node-cell-requires-2 intersect-requires returns)
+    (tie.spec
+    (λ c κs. search needs) (λ c κs. search needs) (λ c κs. search needs) (λ c κs. search needs) returns)

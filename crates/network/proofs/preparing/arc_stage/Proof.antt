@@ -37,15 +37,6 @@ arc-cell-requires c κs =
     let s = c .before .before .before .before in
     (row-lt (s .args .n) (c .before .loop .place) (omega arith), column-lt (s .args .n) (c .before .loop .place) (omega arith), s .pre .0)
 
-slice-write-area : tie.Need-slice-write-area Inv-loop μ-loop
-slice-write-area c = search needs
-
-add-place : tie.Need-add-place Inv-loop μ-loop
-add-place c = search needs
-
-loop-less : tie.Need-loop-less Inv-loop μ-loop
-loop-less c = search needs
-
 loop-again : tie.Need-loop-again Inv-loop μ-loop
 loop-again c =
     let s = c .before .before .before .before .before in
@@ -62,15 +53,5 @@ pub arc-stage-spec : {M : Type 1} → statement M
 arc-stage-spec =
     tie.close
     (tie.spec
-    Inv-loop
-    μ-loop
-    loop-holds
-    div-arc-cell
-    rem-arc-cell
-    arc-cell-requires
-    slice-write-area
-    add-place
-    loop-less
-    loop-again
-    same-length
-    returns)
+    Inv-loop μ-loop loop-holds div-arc-cell rem-arc-cell arc-cell-requires (λ c. search needs) (λ c. search needs)
+    (λ c. search needs) loop-again same-length returns)

@@ -21,22 +21,10 @@ abbrev μ-loop : tie.MeasureT-loop
 loop-holds : tie.Need-loop-holds Inv-loop μ-loop
 loop-holds c = (search needs, λ k l. absurd (omega arith))
 
-node-cell-requires : tie.Need-node-cell-requires Inv-loop μ-loop
-node-cell-requires c κs = search needs
-
-is-empty-requires : tie.Need-is-empty-requires Inv-loop μ-loop
-is-empty-requires c κs = search needs
-
 returns : tie.Need-returns Inv-loop μ-loop
 unfolding emptyRegion
 returns c = least-here _ _ _ (omega arith) (c .before .before .before .before .loop .inv .1)
     (node-test _ _ _ _ _ _ (omega arith) (c .before .before .node-cell .ensures) (c .before .is-empty .ensures) (c .if1 .taken))
-
-add-i : tie.Need-add-i Inv-loop μ-loop
-add-i c = search needs
-
-loop-less : tie.Need-loop-less Inv-loop μ-loop
-loop-less c = search needs
 
 loop-again : tie.Need-loop-again Inv-loop μ-loop
 loop-again c = (
@@ -52,4 +40,6 @@ returns-2 c = least-gone _ _ _ (omega arith) (c .before .loop .inv .1)
 pub emptied-region-spec : {M : Type 1} → statement M
 emptied-region-spec =
     tie.close
-    (tie.spec Inv-loop μ-loop loop-holds node-cell-requires is-empty-requires returns add-i loop-less loop-again returns-2)
+    (tie.spec
+    Inv-loop μ-loop loop-holds (λ c κs. search needs) (λ c κs. search needs) returns (λ c. search needs) (λ c. search needs)
+    loop-again returns-2)

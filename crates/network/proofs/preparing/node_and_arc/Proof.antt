@@ -6,17 +6,8 @@ use Rattle.network.proofs.Prepared.{prepares-region, prepares-pair, pre
 use Rattle.network.proofs.preparing.node_and_arc.Statement.{statement}
 use Rattle.network.proofs.preparing.node_and_arc.Tie as tie
 
-emptied-region-requires : tie.Need-emptied-region-requires
-emptied-region-requires c κs = search needs
-
 returns : tie.Need-returns
 returns c = prepares-region _ _ _ _ (c .before .emptied-region .ensures) (c .if1 .taken)
-
-arc-stage-requires : tie.Need-arc-stage-requires
-arc-stage-requires c κs = search needs
-
-first-empty-requires : tie.Need-first-empty-requires
-first-empty-requires c κs = search needs
 
 -- what the arc rule made, seen from the search, and the test of the regions before it
 abbrev made : tie.After-first-empty → tie.After-arc-stage
@@ -35,18 +26,12 @@ div-t14 c = omega (arith, row-lt (start (c .before) .args .n) (c .before .first-
 rem-t16 : tie.Need-rem-t16
 rem-t16 c = div-t14 c
 
-same-length : tie.Need-same-length
-same-length c = search needs
-
 returns-2 : tie.Need-returns-2
 returns-2 c =
     let searched = c .before in
     let kept = none searched in
     prepares-pair _ _ _ _ (kept .before .emptied-region .ensures) (kept .if1 .left) _ (made searched .arc-stage .ensures) _
     (searched .first-empty .ensures) (omega arith)
-
-same-length-2 : tie.Need-same-length-2
-same-length-2 c = search needs
 
 returns-3 : tie.Need-returns-3
 returns-3 c =
@@ -59,13 +44,5 @@ pub node-and-arc-spec : {M : Type 1} → statement M
 node-and-arc-spec =
     tie.close
     (tie.spec
-    emptied-region-requires
-    returns
-    arc-stage-requires
-    first-empty-requires
-    div-t14
-    rem-t16
-    same-length
-    returns-2
-    same-length-2
-    returns-3)
+    (λ c κs. search needs) returns (λ c κs. search needs) (λ c κs. search needs) div-t14 rem-t16 (λ c. search needs) returns-2
+    (λ c. search needs) returns-3)

@@ -5,12 +5,6 @@ use Rattle.network.proofs.Prepared.{node-on-diagonal, node-off-diagonal
 use Rattle.network.proofs.preparing.node_cell.Statement.{statement}
 use Rattle.network.proofs.preparing.node_cell.Tie as tie
 
-at-requires : tie.Need-at-requires
-at-requires c κs = search needs
-
-intersect-requires : tie.Need-intersect-requires
-intersect-requires c κs = search needs
-
 returns : tie.Need-returns
 returns c =
     let start = c .before .before .before .before in
@@ -24,4 +18,7 @@ returns-2 c =
     node-off-diagonal (start .args .n) (start .args .cells .now) _ _ _ (c .if1 .left) cell
 
 pub node-cell-spec : {M : Type 1} → statement M
-node-cell-spec = tie.close (tie.spec at-requires intersect-requires returns returns-2)
+node-cell-spec =
+    tie.close
+    (tie.spec
+    (λ c κs. search needs) (λ c κs. search needs) returns returns-2)

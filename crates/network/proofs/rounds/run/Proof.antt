@@ -14,15 +14,6 @@ use Rattle.network.proofs.rounds.run.Tie as tie
 abbrev start : tie.After-is-plain-in → tie.Start
 start c = c .before .before .before .before .before
 
-is-plain-in-requires : tie.Need-is-plain-in-requires
-is-plain-in-requires c κs = search needs
-
-same-length : tie.Need-same-length
-same-length c = search needs
-
-same-length-2 : tie.Need-same-length-2
-same-length-2 c = search needs
-
 returns : tie.Need-returns
 returns c = unplain-meets _ _ _ _ _ (sym (c .before .is-plain-in .ensures) ∙ not-true _ (c .if1 .taken))
 
@@ -32,12 +23,6 @@ run-few-requires c κs =
     let s = start (tested .before) in
     let plain = sym (tested .before .is-plain-in .ensures) ∙ not-false _ (tested .if1 .left) in
     (c .before .before .if2 .taken, startable (s .args .area) (s .pre .0) (s .pre .1) plain, s .pre .0, s .pre .1)
-
-same-length-3 : tie.Need-same-length-3
-same-length-3 c = search needs
-
-same-length-4 : tie.Need-same-length-4
-same-length-4 c = search needs
 
 returns-2 : tie.Need-returns-2
 returns-2 c =
@@ -52,12 +37,6 @@ run-many-requires c κs =
     let plain = sym (tested .before .is-plain-in .ensures) ∙ not-false _ (tested .if1 .left) in
     (s .pre .0 .few, startable (s .args .area) (s .pre .0) (s .pre .1) plain, s .pre .0, s .pre .1)
 
-same-length-5 : tie.Need-same-length-5
-same-length-5 c = search needs
-
-same-length-6 : tie.Need-same-length-6
-same-length-6 c = search needs
-
 returns-3 : tie.Need-returns-3
 returns-3 c =
     let ran = c .before .before .before .before in
@@ -68,15 +47,5 @@ pub run-spec : {M : Type 1} → statement M
 run-spec =
     tie.close
     (tie.spec
-    is-plain-in-requires
-    same-length
-    same-length-2
-    returns
-    run-few-requires
-    same-length-3
-    same-length-4
-    returns-2
-    run-many-requires
-    same-length-5
-    same-length-6
-    returns-3)
+    (λ c κs. search needs) (λ c. search needs) (λ c. search needs) returns run-few-requires (λ c. search needs)
+    (λ c. search needs) returns-2 run-many-requires (λ c. search needs) (λ c. search needs) returns-3)

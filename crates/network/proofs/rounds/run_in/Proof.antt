@@ -8,28 +8,10 @@ use Rattle.network.proofs.rounds.run_in.Tie as tie
 abbrev start : tie.After-rounds-from → tie.Start
 start c = c .before .before .before .before .before .before .before .before .before .before .before
 
-rounds-from-requires : tie.Need-rounds-from-requires
-rounds-from-requires c κs = search needs
-
 leave-requires : tie.Need-leave-requires
 leave-requires c κs =
     let ended = c .before .before .before .before .before .before .before .before .before .before in
     (ends-placed _ _ _ _ _ _ (ended .rounds-from .ensures), search needs, search needs, start ended .pre .2, start ended .pre .3)
-
-same-length : tie.Need-same-length
-same-length c = search needs
-
-same-length-2 : tie.Need-same-length-2
-same-length-2 c = search needs
-
-same-length-3 : tie.Need-same-length-3
-same-length-3 c = search needs
-
-same-length-4 : tie.Need-same-length-4
-same-length-4 c = search needs
-
-same-length-5 : tie.Need-same-length-5
-same-length-5 c = search needs
 
 returns : tie.Need-returns
 returns c =
@@ -41,11 +23,5 @@ pub run-in-spec : {M : Type 1} → statement M
 run-in-spec =
     tie.close
     (tie.spec
-    rounds-from-requires
-    leave-requires
-    same-length
-    same-length-2
-    same-length-3
-    same-length-4
-    same-length-5
-    returns)
+    (λ c κs. search needs) leave-requires (λ c. search needs) (λ c. search needs) (λ c. search needs) (λ c. search needs)
+    (λ c. search needs) returns)

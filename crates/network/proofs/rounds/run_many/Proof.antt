@@ -6,25 +6,13 @@ use Rattle.network.proofs.Left.{front-long}
 use Rattle.network.proofs.rounds.run_many.Statement.{statement}
 use Rattle.network.proofs.rounds.run_many.Tie as tie
 
-mul-words : tie.Need-mul-words
-mul-words c = search needs
-
-array-borrow-prefix-old : tie.Need-array-borrow-prefix-old
-array-borrow-prefix-old c = search needs
-
 slice-aggregate-run-in : tie.Need-slice-aggregate-run-in
 slice-aggregate-run-in c =
     let start = c .before .before .before .before .before in sym (front-long (start .args .n) 64 (start .pre .0))
 
-array-borrow-prefix-new : tie.Need-array-borrow-prefix-new
-array-borrow-prefix-new c = search needs
-
 slice-aggregate-run-in-2 : tie.Need-slice-aggregate-run-in-2
 slice-aggregate-run-in-2 c =
     let start = c .before .before .before .before .before .before in sym (front-long (start .args .n) 64 (start .pre .0))
-
-slice-aggregate-run-in-3 : tie.Need-slice-aggregate-run-in-3
-slice-aggregate-run-in-3 c = search needs
 
 run-in-requires : tie.Need-run-in-requires
 run-in-requires c κs =
@@ -32,26 +20,9 @@ run-in-requires c κs =
     let long = front-long (start .args .n) 64 (start .pre .0) in
     (start .pre .1, record { forOld = long; forNew = long; forRows = search needs }, start .pre .2, start .pre .3)
 
-same-length : tie.Need-same-length
-same-length c = search needs
-
-same-length-2 : tie.Need-same-length-2
-same-length-2 c = search needs
-
-returns : tie.Need-returns
-returns c = search needs
-
 pub run-many-spec : {M : Type 1} → statement M
 run-many-spec =
     tie.close
     (tie.spec
-    mul-words
-    array-borrow-prefix-old
-    slice-aggregate-run-in
-    array-borrow-prefix-new
-    slice-aggregate-run-in-2
-    slice-aggregate-run-in-3
-    run-in-requires
-    same-length
-    same-length-2
-    returns)
+    (λ c. search needs) (λ c. search needs) slice-aggregate-run-in (λ c. search needs) slice-aggregate-run-in-2
+    (λ c. search needs) run-in-requires (λ c. search needs) (λ c. search needs) (λ c. search needs))

@@ -16,24 +16,6 @@ abbrev μ-loop : tie.MeasureT-loop
 loop-holds : tie.Need-loop-holds Inv-loop μ-loop
 loop-holds c = filling-begins _ _
 
-mul-old : tie.Need-mul-old Inv-loop μ-loop
-mul-old c = search needs
-
-shared-slice-read-old : tie.Need-shared-slice-read-old Inv-loop μ-loop
-shared-slice-read-old c = search needs
-
-mul-old-2 : tie.Need-mul-old-2 Inv-loop μ-loop
-mul-old-2 c = search needs
-
-slice-write-old : tie.Need-slice-write-old Inv-loop μ-loop
-slice-write-old c = search needs
-
-add-at : tie.Need-add-at Inv-loop μ-loop
-add-at c = search needs
-
-loop-less : tie.Need-loop-less Inv-loop μ-loop
-loop-less c = search needs
-
 loop-again : tie.Need-loop-again Inv-loop μ-loop
 loop-again c =
     let turn = c .before in
@@ -48,4 +30,6 @@ returns c = filling-ends _ _ _ _ (sym (c .before .before .pre)) (c .before .loop
 pub keep-spec : {M : Type 1} → statement M
 keep-spec =
     tie.close
-    (tie.spec Inv-loop μ-loop loop-holds mul-old shared-slice-read-old mul-old-2 slice-write-old add-at loop-less loop-again same-length returns)
+    (tie.spec
+    Inv-loop μ-loop loop-holds (λ c. search needs) (λ c. search needs) (λ c. search needs) (λ c. search needs)
+    (λ c. search needs) (λ c. search needs) loop-again same-length returns)

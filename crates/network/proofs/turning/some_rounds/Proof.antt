@@ -31,9 +31,6 @@ kept c = rounded c .before .before .before .before .before .before
 abbrev turning : tie.After-struct-known Inv-loop μ-loop → tie.In-loop Inv-loop μ-loop
 turning c = kept c .before .before .before
 
-take-requires : tie.Need-take-requires Inv-loop μ-loop
-take-requires c κs = search needs
-
 loop-holds : tie.Need-loop-holds Inv-loop μ-loop
 loop-holds c =
     let taken = c .before .before in
@@ -42,18 +39,6 @@ loop-holds c =
 
 keep-requires : tie.Need-keep-requires Inv-loop μ-loop
 keep-requires c κs = let room = c .before .before .before .loop .inv .0 .room in room .forOld ∙ sym (room .forNew)
-
-round-requires : tie.Need-round-requires Inv-loop μ-loop
-round-requires c κs = search needs
-
-same-length : tie.Need-same-length Inv-loop μ-loop
-same-length c = search needs
-
-same-length-2 : tie.Need-same-length-2 Inv-loop μ-loop
-same-length-2 c = search needs
-
-same-length-3 : tie.Need-same-length-3 Inv-loop μ-loop
-same-length-3 c = search needs
 
 returns : tie.Need-returns Inv-loop μ-loop
 unfolding Ends
@@ -76,9 +61,6 @@ same-length-5 c =
     loop-long (at .loop .inv .0) (turning t .loop-test .taken) (kept t .keep .ensures) (at .loop .inv .1) (rounded t .round .ensures) (tested .if1 .left)
     ∙ sym (start at .pre .1 .forNew)
 
-same-length-6 : tie.Need-same-length-6 Inv-loop μ-loop
-same-length-6 c = search needs
-
 returns-2 : tie.Need-returns-2 Inv-loop μ-loop
 unfolding Ends
 returns-2 c =
@@ -93,9 +75,6 @@ add-count c =
     let few = turning t .loop-test .taken in
     omega (arith, start (turning t .before) .fits .most)
 
-loop-less : tie.Need-loop-less Inv-loop μ-loop
-loop-less c = omega arith
-
 loop-again : tie.Need-loop-again Inv-loop μ-loop
 loop-again c =
     let tested = c .before .before in
@@ -105,45 +84,14 @@ loop-again c =
       search needs,
     )
 
-same-length-7 : tie.Need-same-length-7 Inv-loop μ-loop
-same-length-7 c = search needs
-
-same-length-8 : tie.Need-same-length-8 Inv-loop μ-loop
-same-length-8 c = search needs
-
-same-length-9 : tie.Need-same-length-9 Inv-loop μ-loop
-same-length-9 c = search needs
-
 returns-3 : tie.Need-returns-3 Inv-loop μ-loop
 unfolding Ends
 returns-3 c = loop-used-up (c .before .loop .inv .0) (c .loop-test .left)
-
-add-t25 : tie.Need-add-t25 Inv-loop μ-loop
-add-t25 c = omega arith
 
 pub some-rounds-spec : {M : Type 1} → statement M
 some-rounds-spec =
     tie.close
     (tie.spec
-    Inv-loop
-    μ-loop
-    take-requires
-    loop-holds
-    keep-requires
-    round-requires
-    add-t25
-    same-length
-    same-length-2
-    same-length-3
-    returns
-    same-length-4
-    same-length-5
-    same-length-6
-    returns-2
-    add-count
-    loop-less
-    loop-again
-    same-length-7
-    same-length-8
-    same-length-9
-    returns-3)
+    Inv-loop μ-loop (λ c κs. search needs) loop-holds keep-requires (λ c κs. search needs) (λ c. omega arith)
+    (λ c. search needs) (λ c. search needs) (λ c. search needs) returns same-length-4 same-length-5 (λ c. search needs)
+    returns-2 add-count (λ c. omega arith) loop-again (λ c. search needs) (λ c. search needs) (λ c. search needs) returns-3)

@@ -70,15 +70,6 @@ part-give-row-end c =
     let f = row-fits (args .n) (loop .i) (omega arith) (s .few) in
     omega (arith, f .row, f .all, s .size, s .whole, loop .inv .1)
 
-give-row-requires : tie.Need-give-row-requires Inv-loop μ-loop
-give-row-requires c κs = search needs
-
-add-i : tie.Need-add-i Inv-loop μ-loop
-add-i c = search needs
-
-loop-less : tie.Need-loop-less Inv-loop μ-loop
-loop-less c = search needs
-
 loop-again : tie.Need-loop-again Inv-loop μ-loop
 loop-again c =
     let at-load = c .before .before .before .before in
@@ -113,18 +104,5 @@ pub give-rows-spec : {M : Type 1} → statement M
 give-rows-spec =
     tie.close
     (tie.spec
-    Inv-loop
-    μ-loop
-    loop-holds
-    mul-from
-    add-end
-    load-requires
-    sub-give-row
-    part-give-row-start
-    part-give-row-end
-    give-row-requires
-    add-i
-    loop-less
-    loop-again
-    same-length
-    returns)
+    Inv-loop μ-loop loop-holds mul-from add-end load-requires sub-give-row part-give-row-start part-give-row-end
+    (λ c κs. search needs) (λ c. search needs) (λ c. search needs) loop-again same-length returns)

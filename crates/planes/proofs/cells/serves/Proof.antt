@@ -18,11 +18,11 @@ mul-if3 c = let n = c .before .before .args .n in omega (arith, mul-le-mul-right
 returns-3 : tie.Need-returns-3
 returns-3 c = simp (le-leb 1 _ (c .before .before .if1 .left), le-leb _ 64 (c .before .if2 .left), ne-eqb _ _ (c .if3 .taken))
 
-mul-result : tie.Need-mul-result
-mul-result c = search needs
-
 returns-4 : tie.Need-returns-4
 returns-4 c = simp (le-leb 1 _ (c .before .before .if1 .left), le-leb _ 64 (c .before .if2 .left), eq-eqb _ _ (c .if3 .left))
 
 pub serves-spec : {M : Type 1} → statement M
-serves-spec = tie.close (tie.spec returns returns-2 mul-if3 returns-3 mul-result returns-4)
+serves-spec =
+    tie.close
+    (tie.spec
+    returns returns-2 mul-if3 returns-3 (λ c. search needs) returns-4)

@@ -5,14 +5,8 @@ use borrow.Author.Needs.{needs}
 use Rattle.planes.proofs.cells.take.Statement.{statement}
 use Rattle.planes.proofs.cells.take.Tie as tie
 
-serves-requires : tie.Need-serves-requires
-serves-requires c κs = search needs
-
 take-rows-requires : tie.Need-take-rows-requires
 take-rows-requires c κs = served-square _ _ _ (sym (c .before .before .serves .ensures) ∙ c .before .if1 .taken)
-
-same-length : tie.Need-same-length
-same-length c = search needs
 
 returns : tie.Need-returns
 returns c =
@@ -24,4 +18,7 @@ returns-2 : tie.Need-returns-2
 returns-2 c = taken-none _ _ _ (sym (c .before .serves .ensures) ∙ c .if1 .left)
 
 pub take-spec : {M : Type 1} → statement M
-take-spec = tie.close (tie.spec serves-requires take-rows-requires same-length returns returns-2)
+take-spec =
+    tie.close
+    (tie.spec
+    (λ c κs. search needs) take-rows-requires (λ c. search needs) returns returns-2)

@@ -62,9 +62,6 @@ part-take-row-end c =
     let f = row-fits (args .n) (loop .i) (omega arith) (s .few) in
     omega (arith, f .row, f .all, s .size, s .whole, loop .inv .1)
 
-take-row-requires : tie.Need-take-row-requires Inv-loop μ-loop
-take-row-requires c κs = search needs
-
 store-requires : tie.Need-store-requires Inv-loop μ-loop
 store-requires c κs =
     let at-loop = c .before .before .before .before in
@@ -74,12 +71,6 @@ store-requires c κs =
     let s = at-entry .pre in
     let f = row-fits (args .n) (loop .i) (omega arith) (s .few) in
     omega (arith, f .row, f .all, s .size, s .whole, loop .inv .1)
-
-add-i : tie.Need-add-i Inv-loop μ-loop
-add-i c = search needs
-
-loop-less : tie.Need-loop-less Inv-loop μ-loop
-loop-less c = search needs
 
 loop-again : tie.Need-loop-again Inv-loop μ-loop
 loop-again c =
@@ -118,18 +109,5 @@ pub take-rows-spec : {M : Type 1} → statement M
 take-rows-spec =
     tie.close
     (tie.spec
-    Inv-loop
-    μ-loop
-    loop-holds
-    mul-from
-    add-end
-    sub-take-row
-    part-take-row-start
-    part-take-row-end
-    take-row-requires
-    store-requires
-    add-i
-    loop-less
-    loop-again
-    same-length
-    returns)
+    Inv-loop μ-loop loop-holds mul-from add-end sub-take-row part-take-row-start part-take-row-end (λ c κs. search needs)
+    store-requires (λ c. search needs) (λ c. search needs) loop-again same-length returns)

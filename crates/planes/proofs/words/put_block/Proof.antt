@@ -6,12 +6,6 @@ use Rattle.planes.proofs.Laying.{stored-there, stored-absent}
 use Rattle.planes.proofs.words.put_block.Statement.{statement}
 use Rattle.planes.proofs.words.put_block.Tie as tie
 
-store-requires : tie.Need-store-requires
-store-requires c κs = omega arith
-
-same-length : tie.Need-same-length
-same-length c = search needs
-
 returns : tie.Need-returns
 returns c =
     let put = c .before .before in
@@ -22,4 +16,7 @@ returns-2 : tie.Need-returns-2
 returns-2 c = sym (stored-absent _ _ _ (c .if1 .left))
 
 pub put-block-spec : {M : Type 1} → statement M
-put-block-spec = tie.close (tie.spec store-requires same-length returns returns-2)
+put-block-spec =
+    tie.close
+    (tie.spec
+    (λ c κs. omega arith) (λ c. search needs) returns returns-2)

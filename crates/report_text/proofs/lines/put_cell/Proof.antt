@@ -5,30 +5,6 @@ use denote.Ref.{now}
 use Rattle.report_text.proofs.lines.put_cell.Statement.{statement}
 use Rattle.report_text.proofs.lines.put_cell.Tie as tie
 
-div-i : tie.Need-div-i
-div-i c = search needs
-
-rem-j : tie.Need-rem-j
-rem-j c = search needs
-
-identifier-at-requires : tie.Need-identifier-at-requires
-identifier-at-requires c κs = search needs
-
-identifier-at-requires-2 : tie.Need-identifier-at-requires-2
-identifier-at-requires-2 c κs = search needs
-
-shared-slice-read-t17 : tie.Need-shared-slice-read-t17
-shared-slice-read-t17 c = search needs
-
-shared-slice-read-t20 : tie.Need-shared-slice-read-t20
-shared-slice-read-t20 c = search needs
-
-put-pair-requires : tie.Need-put-pair-requires
-put-pair-requires c κs = search needs
-
-same-length : tie.Need-same-length
-same-length c = search needs
-
 returns : tie.Need-returns
 returns c =
     let at-put-pair = c .before .before in
@@ -47,13 +23,5 @@ pub put-cell-spec : {M : Type 1} → statement M
 put-cell-spec =
     tie.close
     (tie.spec
-    div-i
-    rem-j
-    identifier-at-requires
-    identifier-at-requires-2
-    shared-slice-read-t17
-    shared-slice-read-t20
-    put-pair-requires
-    same-length
-    returns
-    returns-2)
+    (λ c. search needs) (λ c. search needs) (λ c κs. search needs) (λ c κs. search needs) (λ c. search needs)
+    (λ c. search needs) (λ c κs. search needs) (λ c. search needs) returns returns-2)

@@ -22,15 +22,6 @@ loop-holds : tie.Need-loop-holds Inv-loop μ-loop
 loop-holds c = let a = c .before .before .before .before .args in
     (refl, record { within = omega arith; long = refl; lines = pairs-add-none (a .n) (now (a .identifiers)) (now (a .arcs)) (now (a .network)) _ _ })
 
-put-cell-requires : tie.Need-put-cell-requires Inv-loop μ-loop
-put-cell-requires c κs = search needs
-
-add-p : tie.Need-add-p Inv-loop μ-loop
-add-p c = search needs
-
-loop-less : tie.Need-loop-less Inv-loop μ-loop
-loop-less c = search needs
-
 loop-again : tie.Need-loop-again Inv-loop μ-loop
 loop-again c =
     let at-put-cell = c .before .before in
@@ -55,13 +46,5 @@ pub put-pairs-spec : {M : Type 1} → statement M
 put-pairs-spec =
     tie.close
     (tie.spec
-    Inv-loop
-    μ-loop
-    mul-size
-    loop-holds
-    put-cell-requires
-    add-p
-    loop-less
-    loop-again
-    same-length
+    Inv-loop μ-loop mul-size loop-holds (λ c κs. search needs) (λ c. search needs) (λ c. search needs) loop-again same-length
     returns)

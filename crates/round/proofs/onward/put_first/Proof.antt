@@ -5,33 +5,6 @@ use borrow.Author.Needs.{needs}
 use Rattle.round.proofs.onward.put_first.Statement.{statement}
 use Rattle.round.proofs.onward.put_first.Tie as tie
 
-composed-requires : tie.Need-composed-requires
-composed-requires c κs = search needs
-
-store-requires : tie.Need-store-requires
-store-requires c κs = search needs
-
-composed-requires-2 : tie.Need-composed-requires-2
-composed-requires-2 c κs = search needs
-
-store-requires-2 : tie.Need-store-requires-2
-store-requires-2 c κs = search needs
-
-composed-requires-3 : tie.Need-composed-requires-3
-composed-requires-3 c κs = search needs
-
-store-requires-3 : tie.Need-store-requires-3
-store-requires-3 c κs = search needs
-
-composed-requires-4 : tie.Need-composed-requires-4
-composed-requires-4 c κs = search needs
-
-store-requires-4 : tie.Need-store-requires-4
-store-requires-4 c κs = search needs
-
-same-length : tie.Need-same-length
-same-length c = search needs
-
 returns : tie.Need-returns
 returns c =
     let s4 = c .before .before in
@@ -53,13 +26,5 @@ pub put-first-spec : {M : Type 1} → statement M
 put-first-spec =
     tie.close
     (tie.spec
-    composed-requires
-    store-requires
-    composed-requires-2
-    store-requires-2
-    composed-requires-3
-    store-requires-3
-    composed-requires-4
-    store-requires-4
-    same-length
-    returns)
+    (λ c κs. search needs) (λ c κs. search needs) (λ c κs. search needs) (λ c κs. search needs) (λ c κs. search needs)
+    (λ c κs. search needs) (λ c κs. search needs) (λ c κs. search needs) (λ c. search needs) returns)

@@ -4,17 +4,11 @@ use borrow.Author.Needs.{needs}
 use Rattle.round.proofs.onward.put_onward.Statement.{statement}
 use Rattle.round.proofs.onward.put_onward.Tie as tie
 
-put-first-requires : tie.Need-put-first-requires
-put-first-requires c κs = search needs
-
-put-last-requires : tie.Need-put-last-requires
-put-last-requires c κs = search needs
-
-same-length : tie.Need-same-length
-same-length c = search needs
-
 returns : tie.Need-returns
 returns c = wired-all _ _ (c .before .before .put-last .ensures)
 
 pub put-onward-spec : {M : Type 1} → statement M
-put-onward-spec = tie.close (tie.spec put-first-requires put-last-requires same-length returns)
+put-onward-spec =
+    tie.close
+    (tie.spec
+    (λ c κs. search needs) (λ c κs. search needs) (λ c. search needs) returns)

@@ -29,12 +29,6 @@ looked-at c =
 loop-holds : tie.Need-loop-holds Inv-loop μ-loop
 loop-holds c = (left-start _, search needs, refl)
 
-lowest-requires : tie.Need-lowest-requires Inv-loop μ-loop
-lowest-requires c κs = search needs
-
-without-lowest-requires : tie.Need-without-lowest-requires Inv-loop μ-loop
-without-lowest-requires c κs = search needs
-
 mul-from : tie.Need-mul-from Inv-loop μ-loop
 mul-from c =
     let at-found = c .before in
@@ -111,20 +105,5 @@ pub spread-out-spec : {M : Type 1} → statement M
 spread-out-spec =
     tie.close
     (tie.spec
-    Inv-loop
-    μ-loop
-    loop-holds
-    lowest-requires
-    without-lowest-requires
-    mul-from
-    add-end
-    load-requires
-    mul-put-onward
-    sub-put-onward
-    part-put-onward-start
-    part-put-onward-end
-    put-onward-requires
-    loop-less
-    loop-again
-    same-length
-    returns)
+    Inv-loop μ-loop loop-holds (λ c κs. search needs) (λ c κs. search needs) mul-from add-end load-requires mul-put-onward
+    sub-put-onward part-put-onward-start part-put-onward-end put-onward-requires loop-less loop-again same-length returns)

@@ -42,12 +42,6 @@ store-requires c κs =
     let loop = at-loop .loop in
     omega (arith, ready .made, loop .inv .long)
 
-empty-lane-requires : tie.Need-empty-lane-requires Inv-loop μ-loop
-empty-lane-requires c κs = search needs
-
-same-length : tie.Need-same-length Inv-loop μ-loop
-same-length c = search needs
-
 returns : tie.Need-returns Inv-loop μ-loop
 returns c =
     let at-store = c .before .before .before .before in
@@ -71,15 +65,6 @@ returns c =
     turning-stops (args .n) (args .live) (args .old .now) (args .new .now) (ready .few) (ready .whole) (ready .made)
     (loop .new) (through .result) (loop .changed) (loop .b) (omega arith) (loop .inv) made
     _ (c .before .empty-lane .result) (stored .ensures) (omega arith) (c .before .empty-lane .ensures)
-
-differing-requires : tie.Need-differing-requires Inv-loop μ-loop
-differing-requires c κs = search needs
-
-add-b : tie.Need-add-b Inv-loop μ-loop
-add-b c = search needs
-
-loop-less : tie.Need-loop-less Inv-loop μ-loop
-loop-less c = search needs
 
 loop-again : tie.Need-loop-again Inv-loop μ-loop
 loop-again c =
@@ -122,19 +107,6 @@ pub make-blocks-spec : {M : Type 1} → statement M
 make-blocks-spec =
     tie.close
     (tie.spec
-    Inv-loop
-    μ-loop
-    loop-holds
-    load-requires
-    chosen-requires
-    through-requires
-    store-requires
-    empty-lane-requires
-    same-length
-    returns
-    differing-requires
-    add-b
-    loop-less
-    loop-again
-    same-length-2
+    Inv-loop μ-loop loop-holds load-requires chosen-requires through-requires store-requires (λ c κs. search needs)
+    (λ c. search needs) returns (λ c κs. search needs) (λ c. search needs) (λ c. search needs) loop-again same-length-2
     returns-2)

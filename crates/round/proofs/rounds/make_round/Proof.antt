@@ -13,15 +13,8 @@ make-blocks-requires c κs =
     let at-entry = at-spread-out .before .before .before .before .before in
     ready-words _ _ _ (search needs) (at-entry .pre) (at-spread-out .spread-out .ensures)
 
-same-length : tie.Need-same-length
-same-length c = search needs
-
-same-length-2 : tie.Need-same-length-2
-same-length-2 c = search needs
-
-returns : tie.Need-returns
-returns c = search needs
-
 pub make-round-spec : {M : Type 1} → statement M
 make-round-spec =
-    tie.close (tie.spec spread-out-requires make-blocks-requires same-length same-length-2 returns)
+    tie.close
+    (tie.spec
+    spread-out-requires make-blocks-requires (λ c. search needs) (λ c. search needs) (λ c. search needs))

@@ -5,9 +5,6 @@ use borrow.Author.Needs.{needs}
 use Rattle.round.proofs.rounds.round.Statement.{statement}
 use Rattle.round.proofs.rounds.round.Tie as tie
 
-serves-requires : tie.Need-serves-requires
-serves-requires c κs = search needs
-
 below-requires : tie.Need-below-requires
 below-requires c κs = let s = served _ _ _ _ (sym (c .before .serves .ensures) ∙ c .if1 .taken) in (s .low, s .few)
 
@@ -17,12 +14,6 @@ make-round-requires c κs =
     let at-serves = at-if1 .before in
     let at-entry = at-serves .before .before .before .before in
     served-ready (at-entry .args .live) _ (c .before .before .below .ensures) (served _ _ _ _ (sym (at-serves .serves .ensures) ∙ at-if1 .if1 .taken))
-
-same-length : tie.Need-same-length
-same-length c = search needs
-
-same-length-2 : tie.Need-same-length-2
-same-length-2 c = search needs
 
 returns : tie.Need-returns
 returns c =
@@ -40,10 +31,4 @@ pub round-spec : {M : Type 1} → statement M
 round-spec =
     tie.close
     (tie.spec
-    serves-requires
-    below-requires
-    make-round-requires
-    same-length
-    same-length-2
-    returns
-    returns-2)
+    (λ c κs. search needs) below-requires make-round-requires (λ c. search needs) (λ c. search needs) returns returns-2)

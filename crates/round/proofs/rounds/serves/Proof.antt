@@ -10,24 +10,17 @@ returns c = simp (lt-leb 1 _ (c .if1 .taken))
 returns-2 : tie.Need-returns-2
 returns-2 c = simp (le-leb 1 _ (c .before .if1 .left), lt-leb _ 64 (c .if2 .taken))
 
-mul-if3 : tie.Need-mul-if3
-mul-if3 c = search needs
-
 returns-3 : tie.Need-returns-3
 returns-3 c = simp (le-leb 1 _ (c .before .before .if1 .left), le-leb _ 64 (c .before .if2 .left), ne-eqb _ _ (c .if3 .taken))
 
-mul-if4 : tie.Need-mul-if4
-mul-if4 c = search needs
-
 returns-4 : tie.Need-returns-4
 returns-4 c = simp (le-leb 1 _ (c .before .before .before .if1 .left), le-leb _ 64 (c .before .before .if2 .left), eq-eqb _ _ (c .before .if3 .left), ne-eqb _ _ (c .if4 .taken))
-
-mul-result : tie.Need-mul-result
-mul-result c = search needs
 
 returns-5 : tie.Need-returns-5
 returns-5 c = simp (le-leb 1 _ (c .before .before .before .if1 .left), le-leb _ 64 (c .before .before .if2 .left), eq-eqb _ _ (c .before .if3 .left), eq-eqb _ _ (c .if4 .left))
 
 pub serves-spec : {M : Type 1} → statement M
 serves-spec =
-    tie.close (tie.spec returns returns-2 mul-if3 returns-3 mul-if4 returns-4 mul-result returns-5)
+    tie.close
+    (tie.spec
+    returns returns-2 (λ c. search needs) returns-3 (λ c. search needs) returns-4 (λ c. search needs) returns-5)

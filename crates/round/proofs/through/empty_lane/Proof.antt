@@ -5,14 +5,11 @@ use borrow.Author.Needs.{needs}
 use Rattle.round.proofs.through.empty_lane.Statement.{statement}
 use Rattle.round.proofs.through.empty_lane.Tie as tie
 
-members-requires : tie.Need-members-requires
-members-requires c κs = search needs
-
-lowest-requires : tie.Need-lowest-requires
-lowest-requires c κs = search needs
-
 returns : tie.Need-returns
 returns c = c .lowest .ensures ∙ empty-least _ (c .before .members .result) (search needs) (c .before .members .ensures)
 
 pub empty-lane-spec : {M : Type 1} → statement M
-empty-lane-spec = tie.close (tie.spec members-requires lowest-requires returns)
+empty-lane-spec =
+    tie.close
+    (tie.spec
+    (λ c κs. search needs) (λ c κs. search needs) returns)

@@ -20,12 +20,6 @@ abbrev μ-loop : tie.MeasureT-loop
 loop-holds : tie.Need-loop-holds Inv-loop μ-loop
 loop-holds c = (left-start _, refl)
 
-lowest-requires : tie.Need-lowest-requires Inv-loop μ-loop
-lowest-requires c κs = search needs
-
-without-lowest-requires : tie.Need-without-lowest-requires Inv-loop μ-loop
-without-lowest-requires c κs = search needs
-
 mul-from : tie.Need-mul-from Inv-loop μ-loop
 mul-from c =
     let found = c .before .lowest in
@@ -122,19 +116,5 @@ pub through-spec : {M : Type 1} → statement M
 through-spec =
     tie.close
     (tie.spec
-    Inv-loop
-    μ-loop
-    loop-holds
-    lowest-requires
-    without-lowest-requires
-    mul-from
-    add-end
-    everywhere-requires
-    mul-narrow
-    sub-narrow
-    part-narrow-start
-    part-narrow-end
-    narrow-requires
-    loop-less
-    loop-again
-    returns)
+    Inv-loop μ-loop loop-holds (λ c κs. search needs) (λ c κs. search needs) mul-from add-end everywhere-requires mul-narrow
+    sub-narrow part-narrow-start part-narrow-end narrow-requires loop-less loop-again returns)

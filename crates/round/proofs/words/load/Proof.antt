@@ -5,11 +5,11 @@ use Rattle.planes.proofs.Laying.{loaded-there}
 use Rattle.round.proofs.words.load.Statement.{statement}
 use Rattle.round.proofs.words.load.Tie as tie
 
-block-at-requires : tie.Need-block-at-requires
-block-at-requires c κs = search needs
-
 returns : tie.Need-returns
 returns c = c .block-at .ensures ∙ loaded-there _ _ (c .before .before .pre)
 
 pub load-spec : {M : Type 1} → statement M
-load-spec = tie.close (tie.spec block-at-requires returns)
+load-spec =
+    tie.close
+    (tie.spec
+    (λ c κs. search needs) returns)

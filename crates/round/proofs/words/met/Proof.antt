@@ -19,30 +19,6 @@ abbrev μ-loop : tie.MeasureT-loop
 loop-holds : tie.Need-loop-holds Inv-loop μ-loop
 loop-holds c = (search needs, search needs, none-stored _)
 
-mul-less : tie.Need-mul-less Inv-loop μ-loop
-mul-less c = search needs
-
-array-read-less : tie.Need-array-read-less Inv-loop μ-loop
-array-read-less c = search needs
-
-mul-less-2 : tie.Need-mul-less-2 Inv-loop μ-loop
-mul-less-2 c = search needs
-
-array-read-less-2 : tie.Need-array-read-less-2 Inv-loop μ-loop
-array-read-less-2 c = search needs
-
-mul-less-3 : tie.Need-mul-less-3 Inv-loop μ-loop
-mul-less-3 c = search needs
-
-array-write-less : tie.Need-array-write-less Inv-loop μ-loop
-array-write-less c = search needs
-
-add-r : tie.Need-add-r Inv-loop μ-loop
-add-r c = search needs
-
-loop-less : tie.Need-loop-less Inv-loop μ-loop
-loop-less c = search needs
-
 loop-again : tie.Need-loop-again Inv-loop μ-loop
 loop-again c =
     let loop = c .before .loop in (
@@ -58,16 +34,5 @@ pub met-spec : {M : Type 1} → statement M
 met-spec =
     tie.close
     (tie.spec
-    Inv-loop
-    μ-loop
-    loop-holds
-    mul-less
-    array-read-less
-    mul-less-2
-    array-read-less-2
-    mul-less-3
-    array-write-less
-    add-r
-    loop-less
-    loop-again
-    returns)
+    Inv-loop μ-loop loop-holds (λ c. search needs) (λ c. search needs) (λ c. search needs) (λ c. search needs)
+    (λ c. search needs) (λ c. search needs) (λ c. search needs) (λ c. search needs) loop-again returns)

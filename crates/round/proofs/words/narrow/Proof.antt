@@ -18,36 +18,6 @@ abbrev μ-loop : tie.MeasureT-loop
 loop-holds : tie.Need-loop-holds Inv-loop μ-loop
 loop-holds c = (search needs, gathered-none _ _)
 
-mul-united : tie.Need-mul-united Inv-loop μ-loop
-mul-united c = search needs
-
-array-read-united : tie.Need-array-read-united Inv-loop μ-loop
-array-read-united c = search needs
-
-mul-united-2 : tie.Need-mul-united-2 Inv-loop μ-loop
-mul-united-2 c = search needs
-
-mul-united-3 : tie.Need-mul-united-3 Inv-loop μ-loop
-mul-united-3 c = search needs
-
-sub-united : tie.Need-sub-united Inv-loop μ-loop
-sub-united c = search needs
-
-part-united-start : tie.Need-part-united-start Inv-loop μ-loop
-part-united-start c = search needs
-
-part-united-end : tie.Need-part-united-end Inv-loop μ-loop
-part-united-end c = search needs
-
-united-requires : tie.Need-united-requires Inv-loop μ-loop
-united-requires c κs = search needs
-
-add-p : tie.Need-add-p Inv-loop μ-loop
-add-p c = search needs
-
-loop-less : tie.Need-loop-less Inv-loop μ-loop
-loop-less c = search needs
-
 loop-again : tie.Need-loop-again Inv-loop μ-loop
 loop-again c =
     let args = c .before .before .before .before .before .args in
@@ -60,9 +30,6 @@ loop-again c =
           (λ r l. getD-take (length words - from) (drop from words) r 0 (omega arith) ∙ getD-drop from words r 0),
     )
 
-met-requires : tie.Need-met-requires Inv-loop μ-loop
-met-requires c κs = search needs
-
 returns : tie.Need-returns Inv-loop μ-loop
 returns c =
     let args = c .before .before .before .before .args in
@@ -73,19 +40,6 @@ pub narrow-spec : {M : Type 1} → statement M
 narrow-spec =
     tie.close
     (tie.spec
-    Inv-loop
-    μ-loop
-    loop-holds
-    mul-united
-    array-read-united
-    mul-united-2
-    mul-united-3
-    sub-united
-    part-united-start
-    part-united-end
-    united-requires
-    add-p
-    loop-less
-    loop-again
-    met-requires
-    returns)
+    Inv-loop μ-loop loop-holds (λ c. search needs) (λ c. search needs) (λ c. search needs) (λ c. search needs)
+    (λ c. search needs) (λ c. search needs) (λ c. search needs) (λ c κs. search needs) (λ c. search needs) (λ c. search needs)
+    loop-again (λ c κs. search needs) returns)

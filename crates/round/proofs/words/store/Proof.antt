@@ -5,16 +5,13 @@ use Rattle.planes.proofs.Laying.{stored-there}
 use Rattle.round.proofs.words.store.Statement.{statement}
 use Rattle.round.proofs.words.store.Tie as tie
 
-put-block-requires : tie.Need-put-block-requires
-put-block-requires c κs = search needs
-
-same-length : tie.Need-same-length
-same-length c = search needs
-
 returns : tie.Need-returns
 returns c =
     let put = c .before .before in
     put .put-block .ensures ∙ stored-there _ _ _ (put .before .before .before .pre)
 
 pub store-spec : {M : Type 1} → statement M
-store-spec = tie.close (tie.spec put-block-requires same-length returns)
+store-spec =
+    tie.close
+    (tie.spec
+    (λ c κs. search needs) (λ c. search needs) returns)

@@ -6,9 +6,6 @@ use Rattle.rows.proofs.Placing.{read-inside}
 use Rattle.rows.proofs.cells.cell_or_all.Statement.{statement}
 use Rattle.rows.proofs.cells.cell_or_all.Tie as tie
 
-shared-slice-read-result : tie.Need-shared-slice-read-result
-shared-slice-read-result c = search needs
-
 returns : tie.Need-returns
 returns c = read-inside (c .before .before .args .cells .now) (c .before .before .args .j) 0 255 (search needs)
 
@@ -16,4 +13,7 @@ returns-2 : tie.Need-returns-2
 returns-2 c = sym (List·getD-eq-default (c .before .args .cells .now) 255 (search needs))
 
 pub cell-or-all-spec : {M : Type 1} → statement M
-cell-or-all-spec = tie.close (tie.spec shared-slice-read-result returns returns-2)
+cell-or-all-spec =
+    tie.close
+    (tie.spec
+    (λ c. search needs) returns returns-2)

@@ -22,33 +22,6 @@ abbrev μ-loop : tie.MeasureT-loop
 loop-holds : tie.Need-loop-holds Inv-loop μ-loop
 loop-holds c = (search needs, search needs, none-stored _)
 
-add-loop : tie.Need-add-loop Inv-loop μ-loop
-add-loop c = search needs
-
-add-end : tie.Need-add-end Inv-loop μ-loop
-add-end c = search needs
-
-from-lane-requires : tie.Need-from-lane-requires Inv-loop μ-loop
-from-lane-requires c κs = search needs
-
-turned-requires : tie.Need-turned-requires Inv-loop μ-loop
-turned-requires c κs = search needs
-
-sub-give-eight : tie.Need-sub-give-eight Inv-loop μ-loop
-sub-give-eight c = search needs
-
-part-give-eight-start : tie.Need-part-give-eight-start Inv-loop μ-loop
-part-give-eight-start c = search needs
-
-part-give-eight-end : tie.Need-part-give-eight-end Inv-loop μ-loop
-part-give-eight-end c = search needs
-
-give-eight-requires : tie.Need-give-eight-requires Inv-loop μ-loop
-give-eight-requires c κs = search needs
-
-loop-less : tie.Need-loop-less Inv-loop μ-loop
-loop-less c = search needs
-
 loop-again : tie.Need-loop-again Inv-loop μ-loop
 loop-again c =
     let given = c .before .before in
@@ -61,27 +34,6 @@ loop-again c =
           (given .give-eight .ensures
           ∙ lane-words _ _ _ at (at + 8 - at) 8 (made .before .from-lane .ensures) (made .turned .ensures) (omega arith) (omega arith)),
     )
-
-from-lane-requires-2 : tie.Need-from-lane-requires-2 Inv-loop μ-loop
-from-lane-requires-2 c κs = search needs
-
-turned-requires-2 : tie.Need-turned-requires-2 Inv-loop μ-loop
-turned-requires-2 c κs = search needs
-
-sub-give-rest : tie.Need-sub-give-rest Inv-loop μ-loop
-sub-give-rest c = search needs
-
-part-give-rest-start : tie.Need-part-give-rest-start Inv-loop μ-loop
-part-give-rest-start c = search needs
-
-part-give-rest-end : tie.Need-part-give-rest-end Inv-loop μ-loop
-part-give-rest-end c = search needs
-
-give-rest-requires : tie.Need-give-rest-requires Inv-loop μ-loop
-give-rest-requires c κs = search needs
-
-same-length : tie.Need-same-length Inv-loop μ-loop
-same-length c = search needs
 
 returns : tie.Need-returns Inv-loop μ-loop
 unfolding rowCells
@@ -97,9 +49,6 @@ returns c =
     ∙ lane-words _ _ _ at (e - at) _ (made .before .from-lane2 .ensures) (made .turned2 .ensures)
     (mid-len at e (loop .cells) (search needs)) (omega arith)))
 
-same-length-2 : tie.Need-same-length-2 Inv-loop μ-loop
-same-length-2 c = search needs
-
 returns-2 : tie.Need-returns-2 Inv-loop μ-loop
 unfolding rowCells
 returns-2 c =
@@ -110,26 +59,7 @@ pub give-lanes-spec : {M : Type 1} → statement M
 give-lanes-spec =
     tie.close
     (tie.spec
-    Inv-loop
-    μ-loop
-    loop-holds
-    add-loop
-    add-end
-    from-lane-requires
-    turned-requires
-    sub-give-eight
-    part-give-eight-start
-    part-give-eight-end
-    give-eight-requires
-    loop-less
-    loop-again
-    from-lane-requires-2
-    turned-requires-2
-    sub-give-rest
-    part-give-rest-start
-    part-give-rest-end
-    give-rest-requires
-    same-length
-    returns
-    same-length-2
-    returns-2)
+    Inv-loop μ-loop loop-holds (λ c. search needs) (λ c. search needs) (λ c κs. search needs) (λ c κs. search needs)
+    (λ c. search needs) (λ c. search needs) (λ c. search needs) (λ c κs. search needs) (λ c. search needs) loop-again
+    (λ c κs. search needs) (λ c κs. search needs) (λ c. search needs) (λ c. search needs) (λ c. search needs)
+    (λ c κs. search needs) (λ c. search needs) returns (λ c. search needs) returns-2)

@@ -6,12 +6,6 @@ use borrow.Author.Needs.{needs}
 use Rattle.rows.proofs.cells.give_row.Statement.{statement}
 use Rattle.rows.proofs.cells.give_row.Tie as tie
 
-give-lanes-requires : tie.Need-give-lanes-requires
-give-lanes-requires c κs = search needs
-
-same-length : tie.Need-same-length
-same-length c = search needs
-
 returns : tie.Need-returns
 returns c = c .before .before .give-lanes .ensures ∙ row-served _ (c .before .before .before .before .before .before .args .cells .now) (omega arith)
 
@@ -19,4 +13,7 @@ returns-2 : tie.Need-returns-2
 returns-2 c = row-kept _ (c .before .before .args .cells .now) (omega arith)
 
 pub give-row-spec : {M : Type 1} → statement M
-give-row-spec = tie.close (tie.spec give-lanes-requires same-length returns returns-2)
+give-row-spec =
+    tie.close
+    (tie.spec
+    (λ c κs. search needs) (λ c. search needs) returns returns-2)

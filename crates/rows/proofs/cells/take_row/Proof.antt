@@ -16,29 +16,11 @@ abbrev μ-loop : tie.MeasureT-loop
 loop-holds : tie.Need-loop-holds Inv-loop μ-loop
 loop-holds c = (search needs, search needs, row-none _)
 
-with-lanes-requires : tie.Need-with-lanes-requires Inv-loop μ-loop
-with-lanes-requires c κs = search needs
-
 returns : tie.Need-returns Inv-loop μ-loop
 returns c =
     let loop = c .before .before .before .loop in
     let cells = c .before .before .before .before .before .args .cells .now in
     c .with-lanes .ensures ∙ row-rest cells (loop .w) (loop .at) (omega arith) (omega arith) (loop .inv .2)
-
-eight-cells-requires : tie.Need-eight-cells-requires Inv-loop μ-loop
-eight-cells-requires c κs = search needs
-
-turned-requires : tie.Need-turned-requires Inv-loop μ-loop
-turned-requires c κs = search needs
-
-with-lanes-requires-2 : tie.Need-with-lanes-requires-2 Inv-loop μ-loop
-with-lanes-requires-2 c κs = search needs
-
-add-at : tie.Need-add-at Inv-loop μ-loop
-add-at c = search needs
-
-loop-less : tie.Need-loop-less Inv-loop μ-loop
-loop-less c = search needs
 
 loop-again : tie.Need-loop-again Inv-loop μ-loop
 loop-again c =
@@ -60,15 +42,5 @@ pub take-row-spec : {M : Type 1} → statement M
 take-row-spec =
     tie.close
     (tie.spec
-    Inv-loop
-    μ-loop
-    loop-holds
-    with-lanes-requires
-    returns
-    eight-cells-requires
-    turned-requires
-    with-lanes-requires-2
-    add-at
-    loop-less
-    loop-again
-    returns-2)
+    Inv-loop μ-loop loop-holds (λ c κs. search needs) returns (λ c κs. search needs) (λ c κs. search needs)
+    (λ c κs. search needs) (λ c. search needs) (λ c. search needs) loop-again returns-2)

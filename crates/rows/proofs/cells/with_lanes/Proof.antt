@@ -19,33 +19,6 @@ abbrev μ-loop : tie.MeasureT-loop
 loop-holds : tie.Need-loop-holds Inv-loop μ-loop
 loop-holds c = (search needs, search needs, none-stored _)
 
-mul-more : tie.Need-mul-more Inv-loop μ-loop
-mul-more c = search needs
-
-array-read-more : tie.Need-array-read-more Inv-loop μ-loop
-array-read-more c = search needs
-
-mul-more-2 : tie.Need-mul-more-2 Inv-loop μ-loop
-mul-more-2 c = search needs
-
-array-read-more-2 : tie.Need-array-read-more-2 Inv-loop μ-loop
-array-read-more-2 c = search needs
-
-shl-more : tie.Need-shl-more Inv-loop μ-loop
-shl-more c = search needs
-
-mul-more-3 : tie.Need-mul-more-3 Inv-loop μ-loop
-mul-more-3 c = search needs
-
-array-write-more : tie.Need-array-write-more Inv-loop μ-loop
-array-write-more c = search needs
-
-add-r : tie.Need-add-r Inv-loop μ-loop
-add-r c = search needs
-
-loop-less : tie.Need-loop-less Inv-loop μ-loop
-loop-less c = search needs
-
 loop-again : tie.Need-loop-again Inv-loop μ-loop
 loop-again c =
     let loop = c .before .loop in (
@@ -63,17 +36,5 @@ pub with-lanes-spec : {M : Type 1} → statement M
 with-lanes-spec =
     tie.close
     (tie.spec
-    Inv-loop
-    μ-loop
-    loop-holds
-    mul-more
-    array-read-more
-    mul-more-2
-    array-read-more-2
-    shl-more
-    mul-more-3
-    array-write-more
-    add-r
-    loop-less
-    loop-again
-    returns)
+    Inv-loop μ-loop loop-holds (λ c. search needs) (λ c. search needs) (λ c. search needs) (λ c. search needs)
+    (λ c. search needs) (λ c. search needs) (λ c. search needs) (λ c. search needs) (λ c. search needs) loop-again returns)

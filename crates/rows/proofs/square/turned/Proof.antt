@@ -16,32 +16,8 @@ Inv-loop x t₀ r₀ t r = (r ≤ 8) × (length t ≡ 8) × (take r t ≡ listOf
 abbrev μ-loop : tie.MeasureT-loop
 μ-loop x t₀ r₀ t r = 8 - r
 
-joined-requires : tie.Need-joined-requires Inv-loop μ-loop
-joined-requires c κs = search needs
-
-flipped-requires : tie.Need-flipped-requires Inv-loop μ-loop
-flipped-requires c κs = search needs
-
 loop-holds : tie.Need-loop-holds Inv-loop μ-loop
 loop-holds c = (search needs, refl, none-stored _)
-
-mul-t : tie.Need-mul-t Inv-loop μ-loop
-mul-t c = search needs
-
-shr-t : tie.Need-shr-t Inv-loop μ-loop
-shr-t c = search needs
-
-mul-t-2 : tie.Need-mul-t-2 Inv-loop μ-loop
-mul-t-2 c = search needs
-
-array-write-t : tie.Need-array-write-t Inv-loop μ-loop
-array-write-t c = search needs
-
-add-r : tie.Need-add-r Inv-loop μ-loop
-add-r c = search needs
-
-loop-less : tie.Need-loop-less Inv-loop μ-loop
-loop-less c = search needs
 
 loop-again : tie.Need-loop-again Inv-loop μ-loop
 loop-again c =
@@ -62,16 +38,5 @@ pub turned-spec : {M : Type 1} → statement M
 turned-spec =
     tie.close
     (tie.spec
-    Inv-loop
-    μ-loop
-    joined-requires
-    flipped-requires
-    loop-holds
-    mul-t
-    shr-t
-    mul-t-2
-    array-write-t
-    add-r
-    loop-less
-    loop-again
-    returns)
+    Inv-loop μ-loop (λ c κs. search needs) (λ c κs. search needs) loop-holds (λ c. search needs) (λ c. search needs)
+    (λ c. search needs) (λ c. search needs) (λ c. search needs) (λ c. search needs) loop-again returns)
