@@ -11,8 +11,6 @@ use lib.Pow.{pow-lt, pow-pos}
 use Rattle.relation.specs.Sets.{has, only, empty, unite, unionOf, over}
 use Rattle.relation.specs.Composition.{table}
 use Rattle.relation.proofs.Member.{has-only, ext-byte}
-use Rattle.relation.proofs.Over.{over-byte}
-use Rattle.relation.proofs.Entries.{entry}
 use Rattle.lanes.specs.Lists.{maskOf, some}
 use Rattle.lanes.specs.Words.{setAt, wired}
 use Rattle.lanes.proofs.Lists.{list-at}
@@ -75,8 +73,3 @@ has-wired p w x r h =
     ∙ has-union 8 (λ q. cond (has (table p q) r) (getD w q 0) empty) x
     ∙ some-same 8 _ _ (λ q l. has-cond (has (table p q) r) (getD w q 0) x ∙ and-comm (has (table p q) r) (has (getD w q 0) x))
     ∙ sym (has-over w x (λ q. table p q) r)
-
-pub set-wired : (p : ℕ) (w : List ℕ) (x : ℕ) → p < 8 → setAt (wired p w) x ≡ over (setAt w x) (λ q. table p q)
-set-wired p w x h =
-    set-is (wired p w) x (over (setAt w x) (λ q. table p q)) (over-byte (setAt w x) (λ q. table p q) (λ q l. entry p q h l .byte))
-    (λ r l. has-wired p w x r l)

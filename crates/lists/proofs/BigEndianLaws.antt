@@ -1,7 +1,7 @@
 -- Numbers and their four bytes: there and back, how long they are, and what putting them into an area leaves.
 use mathlib.Core.Path.{_≡_, sym}
 use mathlib.Core.List.{List, [], _∷_, _++_, append-assoc}
-use Prim.Native.Nat.{ℕ, zero, suc, _+_, _*_, _/_, _%_, _≤_, _<_}
+use Prim.Native.Nat.{ℕ, _+_, _*_, _/_, _%_, _≤_, _<_}
 use native.Mathlib.Nat.{div-add-mod'}
 use native.Mathlib.Numerals.{unary-clauses}
 use native.Mathlib.Omega.{arith}
@@ -51,27 +51,6 @@ bytes-of-number s at b =
 -- a number that was read from bytes has 32 bits
 pub number-small : (s : List ℕ) (at : ℕ) → AllBytes s → numberAt s at < 4294967296
 number-small s at b = omega (arith, b .small at, b .small (at + 1), b .small (at + 2), b .small (at + 3))
-
--- a list is one of bytes if its first entry and the rest are
-pub bytes-none : AllBytes []
-bytes-none = record { small = λ k. omega arith }
-
-first-small : (x : ℕ) (l : List ℕ) → x < 256 → AllBytes l → (k : ℕ) → getD (x ∷ l) k 0 < 256
-first-small x l h b zero = h
-first-small x l h b (suc k) = b .small k
-
-pub bytes-more : (x : ℕ) (l : List ℕ) → x < 256 → AllBytes l → AllBytes (x ∷ l)
-bytes-more x l h b = record { small = first-small x l h b }
-
--- and so is one that follows another
-pub bytes-both : (l m : List ℕ) → AllBytes l → AllBytes m → AllBytes (l ++ m)
-bytes-both [] m b d = d
-bytes-both (x ∷ l) m b d = bytes-more x (l ++ m) (b .small 0) (bytes-both l m (record { small = λ k. b .small (suc k) }) d)
-
--- the bytes of a number are bytes
-pub number-bytes : (x : ℕ) → AllBytes (bigEndian x)
-number-bytes x =
-    bytes-more _ _ (omega arith) (bytes-more _ _ (omega arith) (bytes-more _ _ (omega arith) (bytes-more _ _ (omega arith) bytes-none)))
 
 -- past the end a byte counts as 0
 pub byte-past : (bytes : List ℕ) (at behind : ℕ) → length bytes ≤ at + behind → Byte bytes at behind 0

@@ -32,9 +32,6 @@ holds-next from count = ap (λ (b : Bool). cond b from (other from)) (even-next 
     go true = refl
     go false = sym (other-other from)
 
-pub holds-next-other : (from : Area) (count : ℕ) → holds (other from) (suc count) ≡ holds from count
-holds-next-other from count = holds-next (other from) count ∙ ap (λ (a : Area). holds a count) (other-other from)
-
 pub holds-other : (from : Area) (count : ℕ) → holds (other from) count ≡ other (holds from count)
 holds-other from count = go (even count)
   where

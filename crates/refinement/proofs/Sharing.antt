@@ -169,20 +169,11 @@ rounds-finish more n m l P h =
     (λ e. absurd (omega (arith, used-up-continues more n m l P e .less, slack-most n m)))
     (λ e. e)
 
-pub runs-finish : (shares : List ℕ) (n : ℕ) (m : List ℕ) → length m ≡ n * n → Plain n m → mostRounds n < total shares
-    → isUsedUp (runs shares n m) ≡ false
-runs-finish shares n m l P h = rw (shared-out shares n m) (rounds-finish (total shares) n m l P h)
-
 -- runs with at least one round each are no more than their rounds
 pub some-total : (shares : List ℕ) → EachSome shares → length shares ≤ total shares
 unfolding total
 some-total [] s = omega arith
 some-total (more ∷ others) s = omega (arith, s .0, some-total others (s .1))
-
--- runs with at least one round each finish after at most one more than can change something
-pub some-finish : (shares : List ℕ) (n : ℕ) (m : List ℕ) → length m ≡ n * n → Plain n m → EachSome shares
-    → mostRounds n < length shares → isUsedUp (runs shares n m) ≡ false
-some-finish shares n m l P s h = runs-finish shares n m l P (omega (arith, some-total shares s))
 
 -- ---- how rounds end
 

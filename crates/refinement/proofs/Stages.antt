@@ -84,10 +84,6 @@ pub round-cell : (n : ℕ) (m : List ℕ) (i j : ℕ) → i < n → j < n → ce
 unfolding round
 round-cell n m i j hi hj = cell-grid n (λ i j. through n m i j n) i j hi hj
 
-pub round-place : (n : ℕ) (m : List ℕ) (p : ℕ) → p < n * n → getD (round n m) p 0 ≡ through n m (row n p) (column n p) n
-unfolding round
-round-place n m p h = at-place n (λ i j. through n m i j n) p h
-
 -- both rules at once, straight from the cells
 pub prepared-arc : (n : ℕ) (m : List ℕ) (i j : ℕ) → i < n → j < n
     → arcCell n (node n m) i j ≡ intersect (nodeCell n m i j) (converse (nodeCell n m j i))

@@ -9,7 +9,6 @@ use denote.Ref.{now}
 use denote.Triple.Clauses.{AtExit}
 use borrow.Fn.Kinds.{Dens, resT, endedOf}
 use Rattle.answer.specs.Ending.{answered}
-use Rattle.matrix.specs.Square.{mostRegions}
 use Rattle.matrix.specs.Cells.{cell}
 use Rattle.matrix.proofs.CellLaws.{cell-grid}
 use Rattle.filing.specs.Said.{Said, regions}
@@ -32,10 +31,6 @@ use Rattle.scene.proofs.read.Kinds as kinds
 use Rattle.scene.proofs.read.Reads.{Post}
 
 module _ {scene : List ℕ} {before after : Areas} {n : ℕ} (r : Reads scene before after (Accepted n)) where
-  -- from 1 to 64 regions
-  pub reads-some : (1 ≤ n) × (n ≤ mostRegions)
-  reads-some = let left = accepted-leaves r in (left .some, left .few)
-
   -- no two regions share an identifier, and none is 0
   pub reads-different : Different (take n (after .identifiers))
   reads-different = let left = accepted-leaves r in rw (left .identifiers-front) (accepted-different scene (left .alone))
