@@ -40,7 +40,7 @@ export SCENE OUT PREFIX DESTDIR SEED COUNT OBJECT
 VERSION := $(shell sed -n 's/^.define CHACHAQOM_VERSION "\(.*\)"/\1/p' include/chachaqom.h)
 BUILD = target/c
 PROGRAM = target/bin/report
-SHARED = $(BUILD)/libchachaqom.so.1
+SHARED = $(BUILD)/libchachaqom.so.2
 HEADERS = include/chachaqom.h include/chachaqom_text.h
 TOOLCHAIN = . tests/toolchain.sh &&
 WARNINGS = -Wall -Wextra -Wpedantic -Werror
@@ -68,7 +68,7 @@ $(PROGRAM): $(PROVED)
 	@touch $@
 
 $(SHARED): $(ARCHIVE) chachaqom.map | $(BUILD)
-	$(TOOLCHAIN) $$CC -shared -Wl,-soname,libchachaqom.so.1 -Wl,--version-script=chachaqom.map -Wl,-z,defs \
+	$(TOOLCHAIN) $$CC -shared -Wl,-soname,libchachaqom.so.2 -Wl,--version-script=chachaqom.map -Wl,-z,defs \
 		-Wl,--whole-archive $(ARCHIVE) -Wl,--no-whole-archive -o $@
 
 # A refused scene is an answer too.

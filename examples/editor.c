@@ -1,9 +1,10 @@
 /*
  * editor.c: a small host, as an editor of scenes would have it. It reads the scene file that is its
  * argument and refines it, a round at a time, with a line after each call, where an editor would
- * redraw. It prints the relations that are left between each two regions, or tells the author in a
- * sentence what is wrong and where. A scene that is accepted is saved where a second file is named,
- * as it was stated and in normal form: regions, then statements row by row.
+ * redraw. It prints the relations that are left between each two regions, and which statements of the
+ * file narrowed them last, the one from the first region before the one from the second; or it tells
+ * the author in a sentence what is wrong and where. A scene that is accepted is saved where a second
+ * file is named, as it was stated and in normal form: regions, then statements row by row.
  *
  *     editor SCENE               shows the scene
  *     editor SCENE OUT           and saves it to OUT
@@ -34,7 +35,7 @@ static size_t scene_length;
 
 static size_t regions; /* n, once the scene is read */
 static uint8_t identifiers[CHACHAQOM_IDENTIFIERS_LENGTH];
-static uint8_t cells[CHACHAQOM_CELLS_LENGTH];
+static uint8_t cells[CHACHAQOM_CELLS_LENGTH], marks[CHACHAQOM_MARKS_LENGTH];
 static uint8_t first[CHACHAQOM_CELLS_LENGTH], second[CHACHAQOM_CELLS_LENGTH];
 static uint8_t answer[CHACHAQOM_ANSWER_LENGTH];
 static uint32_t rounds; /* that changed something, of all calls together */
@@ -45,6 +46,15 @@ static uint32_t identifier(size_t place)
 }
 
 /* ---- a scene that is accepted ---- */
+
+/* The statements that narrowed what is said of a pair last, from either side; none are 0. */
+static void print_statements(uint32_t there, uint32_t back)
+{
+    if (there != 0 && back != 0)
+        printf(", last narrowed by statements %" PRIu32 " and %" PRIu32, there, back);
+    else if (there != 0 || back != 0)
+        printf(", last narrowed by statement %" PRIu32, there != 0 ? there : back);
+}
 
 /* Both areas hold the network then. */
 static void print_network(size_t n)
@@ -58,7 +68,9 @@ static void print_network(size_t n)
             char words[CHACHAQOM_TEXT_LENGTH];
 
             chachaqom_set_in_words(first[i * n + j], words, sizeof words);
-            printf("%" PRIu32 " %s %" PRIu32 "\n", identifier(i), words, identifier(j));
+            printf("%" PRIu32 " %s %" PRIu32, identifier(i), words, identifier(j));
+            print_statements(chachaqom_mark(marks, i * n + j), chachaqom_mark(marks, j * n + i));
+            printf("\n");
         }
 }
 
@@ -161,7 +173,8 @@ static uint32_t refine(size_t n)
 static int show_scene(void)
 {
     uint32_t number = chachaqom_read(scene, scene_length, identifiers, sizeof identifiers,
-                                     cells, sizeof cells, answer, sizeof answer);
+                                     cells, sizeof cells, marks, sizeof marks,
+                                     answer, sizeof answer);
     size_t n = chachaqom_number(answer, CHACHAQOM_ANSWER_COUNT);
 
     if (number != CHACHAQOM_ACCEPTED) {

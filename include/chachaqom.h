@@ -3,17 +3,19 @@
  *
  * A scene is a file that declares regions by identifier and states which of eight relations may
  * hold between two of them. chachaqom_read reads a scene into a matrix of relation sets, one cell
- * for each ordered pair of regions. chachaqom_refine removes from such a matrix what cannot hold,
- * or refuses it and names the region, pair or triple at which nothing is left. chachaqom_prepare
- * and chachaqom_run do the same a few rounds at a time, for a host that redraws in between.
- * chachaqom_write writes a scene from identifiers and a matrix; reading it gives back both.
+ * for each ordered pair of regions, and marks each cell with the statement that narrowed it last.
+ * chachaqom_refine removes from such a matrix what cannot hold, or refuses it and names the region,
+ * pair or triple at which nothing is left. chachaqom_prepare and chachaqom_run do the same a few
+ * rounds at a time, for a host that redraws in between. chachaqom_write writes a scene from
+ * identifiers and a matrix; reading it gives back both.
  *
  *     uint8_t identifiers[CHACHAQOM_IDENTIFIERS_LENGTH], cells[CHACHAQOM_CELLS_LENGTH];
+ *     uint8_t marks[CHACHAQOM_MARKS_LENGTH];
  *     uint8_t first[CHACHAQOM_CELLS_LENGTH], second[CHACHAQOM_CELLS_LENGTH];
  *     uint8_t buffer[CHACHAQOM_SCENE_LIMIT], answer[CHACHAQOM_ANSWER_LENGTH];
  *
  *     if (chachaqom_read(scene, scene_length, identifiers, sizeof identifiers, cells, sizeof cells,
- *                        answer, sizeof answer) == CHACHAQOM_ACCEPTED) {
+ *                        marks, sizeof marks, answer, sizeof answer) == CHACHAQOM_ACCEPTED) {
  *         size_t n = chachaqom_number(answer, CHACHAQOM_ANSWER_COUNT);
  *         if (chachaqom_refine(n, cells, n * n, first, n * n, second, n * n,
  *                              answer, sizeof answer) == CHACHAQOM_ACCEPTED)
@@ -31,8 +33,14 @@
  * from 0 in the order of declaration. Rows, columns and named regions are places; identifiers[i]
  * is the identifier of the region at place i. The two are never used one for the other.
  *
+ * Marks. The statements of a scene, its records of kind 2, have numbers from 1 in file order;
+ * records of other kinds are not counted. The mark of a cell is the number of the last statement
+ * that removed a relation from it, and 0 where none did, which is where the cell is
+ * CHACHAQOM_UNIVERSAL.
+ *
  * Numbers. What is wider than a byte crosses in bytes, big-endian: an identifier in four bytes, an
- * answer as five numbers of four bytes each. chachaqom_number takes one of them out.
+ * answer as five numbers of four bytes each, a mark in two bytes. chachaqom_number takes one of the
+ * former out, chachaqom_mark one of the latter.
  *
  * Answers. The five numbers of an answer are
  *     0  CHACHAQOM_ANSWER_NUMBER   0 for acceptance, else the refusal number; also returned
@@ -53,7 +61,7 @@
  * are measured on the largest inputs, accepted and refused, and rounded up; they are not proved. A
  * loader that binds the C library's memcpy at its first call uses some of its own beside them.
  *
- * Linking. libchachaqom.a and libchachaqom.so.1 are x86-64 ELF code for the System V calling
+ * Linking. libchachaqom.a and libchachaqom.so.2 are x86-64 ELF code for the System V calling
  * convention (Linux), position independent. They need memcpy, memset and memmove, and nothing else.
  * They are linked, and this header compiled without a warning, with gcc and clang, as C99 or later
  * and as C++11 or later. On another processor use a cross compiler for x86-64.
@@ -66,10 +74,10 @@
 
 /*
  * The version of this header and of the library that is installed with it. A host compares
- * CHACHAQOM_VERSION_NUMBER; the shared library's name, libchachaqom.so.1, has the first number.
+ * CHACHAQOM_VERSION_NUMBER; the shared library's name, libchachaqom.so.2, has the first number.
  */
-#define CHACHAQOM_VERSION "1.0.0"
-#define CHACHAQOM_VERSION_NUMBER 10000 /* 10,000 * 1 + 100 * 0 + 0 */
+#define CHACHAQOM_VERSION "2.0.0"
+#define CHACHAQOM_VERSION_NUMBER 20000 /* 10,000 * 2 + 100 * 0 + 0 */
 
 #ifdef __cplusplus
 extern "C" {
@@ -103,6 +111,8 @@ enum {
     CHACHAQOM_NUMBER_LENGTH = 4,           /* an identifier, or a number of an answer */
     CHACHAQOM_IDENTIFIERS_LENGTH = 64 * 4, /* the identifiers of chachaqom_read, exactly */
     CHACHAQOM_CELLS_LENGTH = 64 * 64,      /* the cells of chachaqom_read, exactly */
+    CHACHAQOM_MARK_LENGTH = 2,             /* a mark */
+    CHACHAQOM_MARKS_LENGTH = 64 * 64 * 2,  /* the marks of chachaqom_read, exactly */
     CHACHAQOM_ANSWER_LENGTH = 5 * 4,       /* an answer, exactly */
     CHACHAQOM_REGION_LENGTH = 5,           /* a region record with its kind */
     CHACHAQOM_STATEMENT_LENGTH = 10,       /* a statement record with its kind */
@@ -114,7 +124,7 @@ enum {
     CHACHAQOM_REFINE_STACK = 49152,
     CHACHAQOM_PREPARE_STACK = 1024,
     CHACHAQOM_RUN_STACK = 49152,
-    CHACHAQOM_READ_STACK = 1024,
+    CHACHAQOM_READ_STACK = 9216,
     CHACHAQOM_WRITE_STACK = 1024
 };
 
@@ -179,6 +189,15 @@ static inline uint32_t chachaqom_number(const uint8_t *numbers, size_t k)
     number = number << 8 | bytes[1];
     number = number << 8 | bytes[2];
     return number << 8 | bytes[3];
+}
+
+/* Takes mark k, from 0 to 4,095, out of the marks that chachaqom_read fills. */
+static inline uint32_t chachaqom_mark(const uint8_t *marks, size_t k)
+{
+    const uint8_t *bytes = marks + k * CHACHAQOM_MARK_LENGTH;
+    uint32_t mark = bytes[0];
+
+    return mark << 8 | bytes[1];
 }
 
 /*
@@ -326,7 +345,8 @@ uint32_t chachaqom_run(size_t n, size_t area, size_t rounds,
 /*
  * Reads a scene. A cell starts at CHACHAQOM_UNIVERSAL; a statement of A towards B is intersected
  * into the cell of A's row and B's column only. Statements that clash may leave a cell empty: the
- * scene is accepted all the same, and refining it is refused.
+ * scene is accepted all the same, and refining it is refused. A statement that removes a relation
+ * from its cell leaves its number as that cell's mark; one that removes nothing leaves the mark.
  *
  *   scene               the bytes of the scene file
  *   scene_length        any; over 32,768 is refused
@@ -334,12 +354,15 @@ uint32_t chachaqom_run(size_t n, size_t area, size_t rounds,
  *   identifiers_length  exactly CHACHAQOM_IDENTIFIERS_LENGTH
  *   cells               receives the matrix, cell (i, j) at i * n + j
  *   cells_length        exactly CHACHAQOM_CELLS_LENGTH
+ *   marks               receives the mark of cell (i, j), big-endian, in the two bytes from
+ *                       2 * (i * n + j)
+ *   marks_length        exactly CHACHAQOM_MARKS_LENGTH
  *   answer              receives the answer
  *   answer_length       exactly CHACHAQOM_ANSWER_LENGTH
  *
  * Checked in this order, the first that fails is answered:
  *   2   answer_length is wrong          nothing at all is written, not even the answer
- *   2   another length is wrong         identifiers and cells stay as they were
+ *   2   another length is wrong         identifiers, cells and marks stay as they were
  *   3   the scene is over 32,768 bytes
  * then record by record:
  *   4   no byte where a record should start
@@ -348,25 +371,27 @@ uint32_t chachaqom_run(size_t n, size_t area, size_t rounds,
  *   6, 7, 8   of a region: identifier 0, declared twice, 65th region
  *   9, 10     of a statement: A not declared, B not declared, set empty
  *   1, 11     of an end: no region was declared, bytes are left over
- * What each of them names, the list of refusal numbers says. All but 2 leave identifiers and cells
- * 0 throughout.
+ * What each of them names, the list of refusal numbers says. All but 2 leave identifiers, cells and
+ * marks 0 throughout.
  *
  * Acceptance (0) leaves the identifiers of the n regions in the first 4 * n bytes of identifiers,
- * the matrix in the first n * n bytes of cells, and 0 in the rest of both. The answer's count is n,
- * from 1 to 64; for a refusal it is 0.
+ * the matrix in the first n * n bytes of cells, its marks in the first 2 * n * n bytes of marks, and
+ * 0 in the rest of all three. A mark is at most 3,276: a scene has no more statements. The answer's
+ * count is n, from 1 to 64; for a refusal it is 0.
  *
  * Returns the answer's number.
  */
 uint32_t chachaqom_read(const uint8_t *scene, size_t scene_length,
                         uint8_t *identifiers, size_t identifiers_length,
                         uint8_t *cells, size_t cells_length,
+                        uint8_t *marks, size_t marks_length,
                         uint8_t *answer, size_t answer_length);
 
 /*
  * Writes a scene into the front of a buffer: a region record for each identifier, in place order;
  * then, row by row, a statement of region i towards region j for each cell (i, j), the diagonal
  * included, that is not CHACHAQOM_UNIVERSAL; then an end record. Reading that scene gives back the
- * same identifiers and cells.
+ * same identifiers and cells; the marks are those of its own statements.
  *
  *   n                   the number of regions, 1 to CHACHAQOM_REGIONS_LIMIT
  *   identifiers         identifier i, big-endian, in the four bytes from 4 * i; never written

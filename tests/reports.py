@@ -22,10 +22,10 @@ def statement(a, b, cell):
     return b"\x02" + a.to_bytes(4, "big") + b.to_bytes(4, "big") + bytes([cell])
 
 
-def largest(cell):
-    """64 regions with the longest identifiers, and as many statements as there is room for."""
+def largest(cell, stated=lambda a, b: a < b):
+    """64 regions with the longest identifiers, and as many statements as there is room for, of the pairs that are stated."""
     names = [2**32 - 1 - k for k in range(64)]
-    pairs = [(a, b) for a in names for b in names if a < b] * 2
+    pairs = [(a, b) for a in names for b in names if stated(a, b)] * 2
     room = (LIMIT - 1 - 64 * 5) // 10
     return b"".join(map(region, names)) + b"".join(statement(a, b, cell) for a, b in pairs[:room]) + b"\x03"
 
@@ -39,6 +39,7 @@ def whole():
         scenes[path.name] = made.stdout
     for cell in (255, 254, 128, 32, 7):
         scenes[f"the longest report, stated {cell}"] = largest(cell)
+    scenes["the longest report, stated there and back"] = largest(254, lambda a, b: a != b)
     scenes["a scene of 65,536 zeros"] = bytes(65536)
     scenes["a scene of 32,768 ends"] = b"\x03" * LIMIT
     scenes["a region without equal"] = region(7) + region(9) + statement(9, 9, 251) + b"\x03"
@@ -83,13 +84,20 @@ def unseen(expected):
     return sorted({b"O", b"D", b"E", b"S", b"U"} - letters) + sorted(NUMBERS - numbers)
 
 
+# A pair's line: what stands before its two marks, and the marks.
+MARKS = re.compile(rb"^(.* [A-Z]) (\d+) (\d+)$", re.M)
+
 # Wrong programs, each by what it makes of a right report.
 WRONG = {
-    "a given relation called deduced": lambda text: text.replace(b" O\n", b" D\n"),
-    "a narrowed set called stated": lambda text: text.replace(b" E\n", b" S\n"),
-    "an unknown pair called stated": lambda text: text.replace(b" U\n", b" S\n"),
+    "a given relation called deduced": lambda text: text.replace(b" O ", b" D "),
+    "a narrowed set called stated": lambda text: text.replace(b" E ", b" S "),
+    "an unknown pair called stated": lambda text: text.replace(b" U ", b" S "),
     "rounds left out": lambda text: re.sub(rb"^(accepted \d+) \d+", rb"\1 0", text),
-    "identifiers the other way": lambda text: re.sub(rb"^(\d+) (\d+) (\d+ [A-Z])$", rb"\2 \1 \3", text, flags=re.M),
+    "identifiers the other way": lambda text: re.sub(rb"^(\d+) (\d+) (\d+ [A-Z] \d+ \d+)$", rb"\2 \1 \3", text, flags=re.M),
+    "the marks changed about": lambda text: MARKS.sub(rb"\1 \3 \2", text),
+    "the mark there for both": lambda text: MARKS.sub(rb"\1 \2 \2", text),
+    "statements numbered from 0": lambda text: MARKS.sub(lambda m: b"%s %d %s" % (m[1], max(int(m[2]) - 1, 0), m[3]), text),
+    "marks of 8 bits": lambda text: MARKS.sub(lambda m: b"%s %d %d" % (m[1], int(m[2]) % 256, int(m[3]) % 256), text),
     "the triple in the author's order": lambda text: re.sub(rb"^(refused 23 \d+) (\d+) (\d+)", rb"\1 \3 \2", text),
     "a place for an identifier": lambda text: re.sub(rb"^refused 21 \d+", b"refused 21 1", text),
     "the last line without its end": lambda text: text[:-1],

@@ -49,7 +49,7 @@ def refused(number, place, record):
 
 SCENES = [
     ("example", EXAMPLE + SPOKEN + END,
-     accepted(3, 2 * 8 + 7 * 255, ", identifiers 7 9 4 0, cells 255 8 255 255 255 8 255 255 255 0")),
+     accepted(3, 2 * 8 + 7 * 255, ", identifiers 7 9 4 0, cells 255 8 255 255 255 8 255 255 255 0, marks 0 1 0 0 0 2 0 0 0 0")),
     ("both_ways", region(5) + region(6) + statement(5, 6, 24) + statement(6, 5, 33) + END, accepted(2, 255 + 24 + 33 + 255)),
     ("clashing", region(5) + region(6) + statement(5, 6, 8) + statement(5, 6, 32) + END, accepted(2, 3 * 255)),
     ("to_itself", region(5) + statement(5, 5, 251) + END, accepted(1, 251)),
@@ -121,7 +121,7 @@ def files():
     made = {f"data/{name}": scene for name, scene, _ in SCENES}
     made["args"] = "".join(name + "\n" for name, _, _ in SCENES).encode()
     matrices = "".join(matrix(*given) for given in MATRICES)
-    short = "".join(f"{what}: 2 0 0, sum of the cells {7 * cells}\n" for what, cells in (("63 identifiers", 4096), ("4095 cells", 4095)))
+    short = "".join(f"{what}: 2 0 0, sum of the cells {7 * cells}\n" for what, cells in (("63 identifiers", 4096), ("4095 cells", 4095), ("4095 marks", 4096)))
     lines = "".join(f"{name}: {line}\n" for name, _, line in SCENES)
     made["stdout"] = (matrices + short + lines).encode()
     return made

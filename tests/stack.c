@@ -23,6 +23,7 @@ static void (*measured)(void);
 static const uint8_t *called_from; /* where the stack stood when the call was made */
 
 static uint8_t identifiers[CHACHAQOM_IDENTIFIERS_LENGTH], cells[CHACHAQOM_CELLS_LENGTH];
+static uint8_t marks[CHACHAQOM_MARKS_LENGTH];
 static uint8_t first[CHACHAQOM_CELLS_LENGTH], second[CHACHAQOM_CELLS_LENGTH];
 static uint8_t scene[CHACHAQOM_SCENE_LIMIT + 1], buffer[CHACHAQOM_SCENE_LIMIT];
 static uint8_t answer[CHACHAQOM_ANSWER_LENGTH];
@@ -51,7 +52,7 @@ static void run(void)
 static void read_scene(void)
 {
     chachaqom_read(scene, scene_length, identifiers, sizeof identifiers, cells, sizeof cells,
-                   answer, sizeof answer);
+                   marks, sizeof marks, answer, sizeof answer);
 }
 
 static void write_scene(void)

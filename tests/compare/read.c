@@ -1,7 +1,7 @@
 /* read.c: chachaqom_read compared on scenes, whole and damaged; accepted ones are written again. */
 #include "compare.h"
 
-static struct lent lent_scene, lent_identifiers, lent_cells, lent_answer;
+static struct lent lent_scene, lent_identifiers, lent_cells, lent_marks, lent_answer;
 
 static uint32_t read_by(int program)
 {
@@ -9,6 +9,7 @@ static uint32_t read_by(int program)
         lent_to(&lent_scene, program), lent_scene.length,
         lent_to(&lent_identifiers, program), lent_identifiers.length,
         lent_to(&lent_cells, program), lent_cells.length,
+        lent_to(&lent_marks, program), lent_marks.length,
         lent_to(&lent_answer, program), lent_answer.length);
 }
 
@@ -18,7 +19,7 @@ static int compare_lent(void)
 
     return returned_alike(&read_call, library, other)
            && area_alike(&lent_answer) && area_alike(&lent_identifiers) && area_alike(&lent_cells)
-           && input_alike(&lent_scene);
+           && area_alike(&lent_marks) && input_alike(&lent_scene);
 }
 
 static int writes_what_was_read(void)
@@ -34,8 +35,8 @@ static int writes_what_was_read(void)
 
 static int compare_scene(void)
 {
-    size_t lengths[3] = { CHACHAQOM_IDENTIFIERS_LENGTH, CHACHAQOM_CELLS_LENGTH,
-                          CHACHAQOM_ANSWER_LENGTH };
+    size_t lengths[4] = { CHACHAQOM_IDENTIFIERS_LENGTH, CHACHAQOM_CELLS_LENGTH,
+                          CHACHAQOM_MARKS_LENGTH, CHACHAQOM_ANSWER_LENGTH };
     size_t damages = below(4);
 
     build_scene();
@@ -44,14 +45,15 @@ static int compare_scene(void)
     if (once_in(200))
         scene_length = 0;
     if (once_in(15)) {
-        size_t which = below(3);
+        size_t which = below(4);
 
         lengths[which] = hostile_length(lengths[which]);
     }
     lend_input(&lent_scene, "scene", scene, scene_length);
     lend(&lent_identifiers, "identifiers", lengths[0]);
     lend(&lent_cells, "cells", lengths[1]);
-    lend(&lent_answer, "answer", lengths[2]);
+    lend(&lent_marks, "marks", lengths[2]);
+    lend(&lent_answer, "answer", lengths[3]);
     return compare_lent() && writes_what_was_read();
 }
 

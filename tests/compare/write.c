@@ -18,18 +18,36 @@ static int same_then_zeros(const char *what, const uint8_t *bytes, size_t length
     return 1;
 }
 
-/* What was written is read back to the identifiers and cells that were given. */
+/* The marks of what was written: statements in row order, one for each cell that is not 255. */
+static int marks_in_row_order(const uint8_t *marks, const uint8_t *cells)
+{
+    unsigned statements = 0;
+    size_t i;
+
+    for (i = 0; i < CHACHAQOM_CELLS_LENGTH; i++) {
+        int stated = cells[i] != CHACHAQOM_UNIVERSAL && cells[i] != CHACHAQOM_EMPTY;
+        unsigned mark = chachaqom_mark(marks, i), expected = stated ? ++statements : 0;
+
+        if (mark != expected)
+            return differs("marks read back", GUARD + i, mark, expected);
+    }
+    return 1;
+}
+
+/* What was written is read back to the identifiers and cells that were given, with its own marks. */
 static int reads_back(size_t n, size_t written)
 {
     static uint8_t identifiers[CHACHAQOM_IDENTIFIERS_LENGTH], cells[CHACHAQOM_CELLS_LENGTH];
+    static uint8_t marks[CHACHAQOM_MARKS_LENGTH];
     uint8_t answer[CHACHAQOM_ANSWER_LENGTH];
     uint32_t number, count;
 
     memset(identifiers, 0xA5, sizeof identifiers);
     memset(cells, 0xA5, sizeof cells);
+    memset(marks, 0xA5, sizeof marks);
     number = chachaqom_read(lent_to(&lent_buffer, LIBRARY), written,
                             identifiers, sizeof identifiers, cells, sizeof cells,
-                            answer, sizeof answer);
+                            marks, sizeof marks, answer, sizeof answer);
     count = chachaqom_number(answer, CHACHAQOM_ANSWER_COUNT);
     write_call.count++;
     if (number != CHACHAQOM_ACCEPTED)
@@ -39,7 +57,8 @@ static int reads_back(size_t n, size_t written)
     return same_then_zeros("identifiers read back", identifiers, sizeof identifiers,
                            lent_identifiers.before + GUARD, n * CHACHAQOM_NUMBER_LENGTH)
            && same_then_zeros("cells read back", cells, sizeof cells, lent_cells.before + GUARD,
-                              n * n);
+                              n * n)
+           && marks_in_row_order(marks, cells);
 }
 
 static uint32_t write_by(int program, size_t n)

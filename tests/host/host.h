@@ -81,10 +81,6 @@ void check_answer(uint32_t returned, struct outcome outcome);
 
 /* ---- scenes (scenes.c) ---- */
 
-struct written_scene {
-    const char *name, *scene, *identifiers, *cells; /* the last three in hexadecimal */
-};
-
 /* The bytes of a text in hexadecimal, spaces left out; how many. */
 size_t from_hex(const char *text, uint8_t *bytes);
 
@@ -98,6 +94,6 @@ size_t put_statement(size_t place, uint32_t a, uint32_t b, uint8_t set);
 
 /* Reads a scene, in every position, and expects the outcome and what is read (read.c). */
 void read_scene(const uint8_t *scene, size_t length, struct outcome outcome,
-                const uint8_t *identifiers, const uint8_t *cells);
+                const uint8_t *identifiers, const uint8_t *cells, const uint8_t *marks);
 
 #endif

@@ -51,6 +51,21 @@ static struct lengths with_buffer(size_t n, size_t buffer)
     return lengths_of(n * CHACHAQOM_NUMBER_LENGTH, n * n, buffer, CHACHAQOM_ANSWER_LENGTH);
 }
 
+/* The marks of what was written: statements in row order, one for each cell that is not 255. */
+static const uint8_t *marks_of(size_t n, const uint8_t *cells)
+{
+    static uint8_t marks[CHACHAQOM_MARKS_LENGTH];
+    size_t statements = 0, i;
+
+    for (i = 0; i < n * n; i++) {
+        size_t mark = cells[i] == CHACHAQOM_UNIVERSAL ? 0 : ++statements;
+
+        marks[2 * i] = (uint8_t)(mark / 256);
+        marks[2 * i + 1] = (uint8_t)(mark % 256);
+    }
+    return marks;
+}
+
 /*
  * The scene is written wherever the buffer is as long or longer, and 12 is answered wherever it is
  * shorter; and it is read back to what was given.
@@ -68,7 +83,7 @@ static void write_and_read_back(size_t n, const uint8_t *identifiers, const uint
     for (i = 0; i < COUNT_OF(shorter); i++)
         write_with(n, identifiers, cells, with_buffer(n, length - shorter[i]), no_room, NULL);
     read_scene(scene, length, outcome_of(CHACHAQOM_ACCEPTED, 0, 0, 0, (uint32_t)n), identifiers,
-               cells);
+               cells, marks_of(n, cells));
 }
 
 /* The refusal comes whatever the buffer's length is. */
@@ -82,6 +97,10 @@ static void write_refused(size_t n, const uint8_t *identifiers, const uint8_t *c
         write_with(n, identifiers, cells, with_buffer(n, buffers[k]),
                    outcome_of(number, i, j, 0, 0), NULL);
 }
+
+struct written_scene {
+    const char *name, *scene, *identifiers, *cells; /* the last three in hexadecimal */
+};
 
 static const struct written_scene written_scenes[] = {
     { "the example scene, written",

@@ -37,6 +37,15 @@ save_scene() {
     same "$WORK/expected.txt" "$WORK/edited.txt" && same "$scene" "$WORK/saved.scene"
 }
 
+# The normal form of the scene of one name is shown alike, but for the numbers of its own statements, and saved as it is.
+save_normal() {
+    sed -i 's/, last narrowed by .*//' "$WORK/expected.txt"
+    $RUN $BUILD/editor "$WORK/normal.scene" "$WORK/saved.scene" > "$WORK/edited.txt" ||
+        { echo "$1: its normal form is not saved"; return 1; }
+    sed -i 's/, last narrowed by .*//' "$WORK/edited.txt"
+    same "$WORK/expected.txt" "$WORK/edited.txt" && same "$WORK/normal.scene" "$WORK/saved.scene"
+}
+
 # Every accepted scene is saved in normal form, twice alike; a refused one leaves the file.
 save_every_scene() {
     echo "something else" > "$WORK/other.scene"
@@ -46,8 +55,7 @@ save_every_scene() {
             [ -e "tests/saved/$name.txt" ] && text=tests/saved/$name.txt
             tools/scene make "$text" > "$WORK/normal.scene" || return 1
             last="Saved: $(($(wc -c < "$WORK/normal.scene"))) bytes."
-            save_scene "$name" "$name" "$last" 0 "$WORK/normal.scene" &&
-                save_scene normal "$name" "$last" 0 "$WORK/normal.scene" || return 1
+            save_scene "$name" "$name" "$last" 0 "$WORK/normal.scene" && save_normal "$name" || return 1
             saved=$((saved + 1))
         else
             cp "$WORK/other.scene" "$WORK/saved.scene"

@@ -7,7 +7,7 @@ host_installed() {
         [ "$(PKG_CONFIG_PATH="$1/lib/pkgconfig" pkg-config --modversion chachaqom)" = "$version" ] || return 1
     eval "linked installed $CC -std=c99 -Wall -Wextra -Wpedantic -Werror tests/installed.c $flags \
         '-Wl,-rpath,$1/lib'" &&
-        ${NM%nm}readelf -d "$WORK/linked-installed" | grep -q 'NEEDED.*libchachaqom\.so\.1' || return 1
+        ${NM%nm}readelf -d "$WORK/linked-installed" | grep -q 'NEEDED.*libchachaqom\.so\.2' || return 1
     eval "linked installed-static $CC -std=c99 -static tests/installed.c $flags"
 }
 

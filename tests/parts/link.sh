@@ -50,7 +50,7 @@ declared_calls() {
 names_shown() {
     declared_calls > "$WORK/declared.txt" && [ -s "$WORK/declared.txt" ] || return 1
     $NM -g --defined-only $ARCHIVE | awk 'NF == 3 { print $3 }' | sort > "$WORK/archive.txt"
-    $NM -D --defined-only $BUILD/libchachaqom.so.1 | awk '{ print $3 }' | sort > "$WORK/shared.txt"
+    $NM -D --defined-only $BUILD/libchachaqom.so.2 | awk '{ print $3 }' | sort > "$WORK/shared.txt"
     same "$WORK/declared.txt" "$WORK/archive.txt" && same "$WORK/declared.txt" "$WORK/shared.txt" || return 1
     needs=$($NM -u $ARCHIVE | awk 'NF == 2 { print $2 }' | sort -u | grep -vx 'memcpy\|memset\|memmove')
     [ -z "$needs" ] || { echo "the archive needs $needs"; return 1; }
@@ -58,6 +58,6 @@ names_shown() {
 
 linking() {
     tried=0
-    $MAKE $BUILD/libchachaqom.so.1 && quiet_headers && link_with "$CC" gcc && link_with "$CLANG" clang &&
+    $MAKE $BUILD/libchachaqom.so.2 && quiet_headers && link_with "$CC" gcc && link_with "$CLANG" clang &&
         names_shown && echo "$tried programs and headers with gcc and clang; only the calls are shown"
 }

@@ -24,6 +24,25 @@ scenes() {
     tripped=$((tripped + 1))
 }
 
+# Statements are numbered from 1, regions between them not counted.
+numbered() {
+    cat > "$WORK/numbered.txt" << 'TEXT'
+region 30
+30 equal,overlap 30  # statement 1
+region 10
+10 disjoint,meet,overlap 30  # statement 2
+30 any 10  # statement 3
+region 20
+20 inside,coveredBy 10  # statement 4
+10 meet,equal,overlap 30  # statement 5
+20 any 20  # statement 6
+10 contains,covers,overlap 20  # statement 7
+end
+TEXT
+    tools/scene make tests/scenes/mixed.txt -o "$WORK/numbered.scene" &&
+        tools/scene show "$WORK/numbered.scene" -o "$WORK/shown.txt" && same "$WORK/numbered.txt" "$WORK/shown.txt"
+}
+
 # ---- texts that are at fault, files that cannot be used ----
 
 # Each is a text at fault and what must be said of it: its line, and no word of the tool's own language.
@@ -96,7 +115,7 @@ output_files() {
 
 # 300,000 lines within a time that a quadratic tool would exceed many times.
 long_text() {
-    { echo "region 1"; yes "1 inside 1" | head -n 300000; echo end; } > "$WORK/long.txt"
+    { echo "region 1"; seq -f '1 inside 1  # statement %.0f' 300000; echo end; } > "$WORK/long.txt"
     timeout 30 tools/scene make "$WORK/long.txt" -o "$WORK/long.scene" &&
         timeout 30 tools/scene show "$WORK/long.scene" -o "$WORK/longer.txt" &&
         same "$WORK/long.txt" "$WORK/longer.txt"
@@ -104,6 +123,6 @@ long_text() {
 
 scene_tool() {
     faulty=0
-    scenes && faulty_texts && other_texts && unusable_files && output_files && long_text &&
+    scenes && numbered && faulty_texts && other_texts && unusable_files && output_files && long_text &&
         echo "examples made and shown alike, $tripped damaged scenes too; $faulty faulty texts told"
 }

@@ -64,7 +64,17 @@
     FAULT(IDENTIFIER_TAKEN_AS_PLACE, "taking an identifier for a place") \
     FAULT(LEFTOVER_BEFORE_NO_REGION, "refusing with 11 before 1") \
     FAULT(LEFTOVER_PLACE_OFF_BY_ONE, "place of the bytes after End off by one") \
-    FAULT(READING_AREAS_UNCLEARED, "leaving the reader's areas uncleared")
+    FAULT(READING_AREAS_UNCLEARED, "leaving the reader's areas uncleared") \
+    FAULT(MARKS_OVER_ALL_RECORDS, "marks: the number counted over all records") \
+    FAULT(MARKS_FROM_NONE, "marks: statements numbered from 0") \
+    FAULT(MARK_OF_WHAT_REMOVES_NOTHING, "marks: a statement that removes nothing takes the mark") \
+    FAULT(MARK_OF_THE_FIRST, "marks: the first statement that removed something keeps the mark") \
+    FAULT(MARK_THE_OTHER_WAY, "marks: the mark at (B, A)") \
+    FAULT(MARKS_IN_ROWS_OF_64, "marks: rows of 64") \
+    FAULT(MARKS_LITTLE_ENDIAN, "marks: little-endian") \
+    FAULT(MARKS_UNCLEARED, "marks: not cleared by a refusal") \
+    FAULT(MARKS_LEFT_BEHIND, "marks: not cleared behind the last row") \
+    FAULT(MARKS_OF_ANY_LENGTH, "marks: any length that has room for them taken")
 
 #define FAULTS_OF_WRITE(FAULT) \
     FAULT(WRITING_REGIONS_TAKEN_AS_A_BYTE, "writing: taking n as a byte") \

@@ -52,11 +52,13 @@ struct outcome make_round(const struct matrix *old, struct matrix *next, size_t 
 
 int same(const struct matrix *a, const struct matrix *b);
 
-/* What a scene says: identifiers by place, and cells. */
+/* What a scene says: identifiers by place, cells, and by which statement each was last narrowed. */
 struct scene {
     size_t count;
+    size_t statements; /* how many were taken in */
     uint32_t identifier[REGIONS];
     uint8_t cell[REGIONS][REGIONS];
+    uint16_t mark[REGIONS][REGIONS];
 };
 
 /* The place of an identifier; the count of regions where it is not declared. */

@@ -31,20 +31,27 @@ static unsigned long identifier_at(const uint8_t *identifiers, uint32_t place)
     return get_number(identifiers + 4 * place);
 }
 
+/* The mark of a cell, from its two bytes. */
+static unsigned mark_at(const uint8_t *marks, size_t cell)
+{
+    return marks[2 * cell] * 256u + marks[2 * cell + 1];
+}
+
 /* A line for each pair of places in row order. */
-static size_t report_pairs(char *text, size_t n, const uint8_t *identifiers,
-                           const uint8_t *stated, const uint8_t *refined)
+static size_t report_pairs(char *text, size_t n, const uint8_t *identifiers, const uint8_t *stated,
+                           const uint8_t *marks, const uint8_t *refined)
 {
     size_t length = 0;
     uint32_t i, j;
 
     for (i = 0; i < n; i++)
         for (j = i + 1; j < n; j++)
-            length += (size_t)sprintf(text + length, "%lu %lu %u %c\n",
+            length += (size_t)sprintf(text + length, "%lu %lu %u %c %u %u\n",
                                       identifier_at(identifiers, i), identifier_at(identifiers, j),
                                       refined[i * n + j],
                                       class_of(stated[i * n + j], stated[j * n + i],
-                                               refined[i * n + j]));
+                                               refined[i * n + j]),
+                                      mark_at(marks, i * n + j), mark_at(marks, j * n + i));
     return length;
 }
 
@@ -64,10 +71,11 @@ static size_t report_contradiction(char *text, uint32_t number, const uint8_t *a
 size_t second_report(const uint8_t *scene, size_t scene_length, char *text)
 {
     static uint8_t identifiers[4 * REGIONS], cells[REGIONS * REGIONS];
-    static uint8_t first[REGIONS * REGIONS], second[REGIONS * REGIONS];
+    static uint8_t marks[2 * REGIONS * REGIONS], first[REGIONS * REGIONS], second[REGIONS * REGIONS];
     uint8_t answer[20];
     uint32_t number = second_read(scene, scene_length, identifiers, sizeof identifiers,
-                                  cells, sizeof cells, answer, sizeof answer);
+                                  cells, sizeof cells, marks, sizeof marks,
+                                  answer, sizeof answer);
     size_t n, length;
 
     if (number != 0)
@@ -79,5 +87,5 @@ size_t second_report(const uint8_t *scene, size_t scene_length, char *text)
         return report_contradiction(text, number, answer, identifiers);
     length = (size_t)sprintf(text, "accepted %lu %lu\n", (unsigned long)n,
                              (unsigned long)get_number(answer + 16));
-    return length + report_pairs(text + length, n, identifiers, cells, first);
+    return length + report_pairs(text + length, n, identifiers, cells, marks, first);
 }

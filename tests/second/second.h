@@ -38,6 +38,7 @@ uint32_t second_run(size_t n, size_t area, size_t rounds,
 uint32_t second_read(const uint8_t *scene, size_t scene_length,
                      uint8_t *identifiers, size_t identifiers_length,
                      uint8_t *cells, size_t cells_length,
+                     uint8_t *marks, size_t marks_length,
                      uint8_t *answer, size_t answer_length);
 
 uint32_t second_write(size_t n, const uint8_t *identifiers, size_t identifiers_length,
@@ -46,7 +47,7 @@ uint32_t second_write(size_t n, const uint8_t *identifiers, size_t identifiers_l
                       uint8_t *answer, size_t answer_length);
 
 /* The report on a scene, as text; its length. Every report fits into so many bytes. */
-#define SECOND_REPORT_ROOM 65536
+#define SECOND_REPORT_ROOM 131072
 size_t second_report(const uint8_t *scene, size_t scene_length, char *text);
 
 #endif

@@ -1,5 +1,5 @@
 // The reader on scenes from outside: for each the answer's number, place and count, the sum of the cells, of a scene with three regions
-// its identifiers and cells, how long the refused record's part is and its first bytes.
+// its identifiers, cells and marks, how long the refused record's part is and its first bytes.
 use crate::console::number;
 use crate::console::print_bytes;
 use crate::console::print_cells;
@@ -22,9 +22,25 @@ fn whole(identifier: u32) -> u64 {
     identifier as u64
 }
 
+// The first `count` at most.
+fn print_marks(marks: &[u16], count: usize) {
+    let mut place: usize = 0;
+    while place < count {
+        if marks.len() <= place {
+            return;
+        }
+        number(whole_mark(marks[place]));
+        place += 1;
+    }
+}
+
+fn whole_mark(mark: u16) -> u64 {
+    mark as u64
+}
+
 // The reading of a scene with areas of these lengths, and what it left.
-fn print_reading(scene: &[u8], identifiers: &mut [u32], cells: &mut [u8]) {
-    let told = scene::numbers::of_reading(scene::read(scene, identifiers, cells));
+fn print_reading(scene: &[u8], identifiers: &mut [u32], cells: &mut [u8], marks: &mut [u16]) {
+    let told = scene::numbers::of_reading(scene::read(scene, identifiers, cells, marks));
     number(told.number as u64);
     number(told.first as u64);
     number(told.count as u64);
@@ -36,13 +52,16 @@ fn print_reading(scene: &[u8], identifiers: &mut [u32], cells: &mut [u8]) {
         print_identifiers(identifiers, 4);
         word(b", cells");
         print_cells(cells, 10);
+        word(b", marks");
+        print_marks(marks, 10);
     }
 }
 
 fn print_scene(scene: &[u8]) {
     let mut identifiers = [7u32; 64];
     let mut cells = [7u8; 4096];
-    print_reading(scene, &mut identifiers, &mut cells);
+    let mut marks = [7u16; 4096];
+    print_reading(scene, &mut identifiers, &mut cells, &mut marks);
     word(b"\n");
     let part = scene::refused_record(scene);
     word(b"  record");
@@ -58,10 +77,14 @@ fn print_short(scene: &[u8]) {
     let mut cells = [7u8; 4096];
     let mut few_identifiers = [7u32; 63];
     let mut few_cells = [7u8; 4095];
+    let mut marks = [7u16; 4096];
+    let mut few_marks = [7u16; 4095];
     word(b"63 identifiers:");
-    print_reading(scene, &mut few_identifiers, &mut cells);
+    print_reading(scene, &mut few_identifiers, &mut cells, &mut marks);
     word(b"\n4095 cells:");
-    print_reading(scene, &mut identifiers, &mut few_cells);
+    print_reading(scene, &mut identifiers, &mut few_cells, &mut marks);
+    word(b"\n4095 marks:");
+    print_reading(scene, &mut identifiers, &mut cells, &mut few_marks);
     word(b"\n");
 }
 

@@ -1,12 +1,14 @@
 -- What the exports promise, by the ways they can go: an answer area of another length, and what the calls behind them left.
 use mathlib.Core.Path.{_≡_, refl, sym, ap, _∙_}
 use mathlib.Core.Bool.{true, false, cond}
-use mathlib.Core.List.{List}
+use mathlib.Core.List.{List, []}
 use Prim.Native.Nat.{ℕ}
+use native.Mathlib.Omega.{arith}
 use borrow.Author.Tests.{eq-eqb, ne-eqb}
 use lib.Dec.{eqb}
 use lib.ListN.{length, replicate}
-use Rattle.lists.specs.BigEndian.{AllBytes, numbersBytes}
+use Rattle.lists.specs.BigEndian.{AllBytes, numbersBytes, twoBytesEach}
+use Rattle.lists.proofs.Splits.{by-test}
 use Rattle.answer.specs.Answer.{Answer, answer}
 use Rattle.answer.specs.Ending.{refused, answered}
 use Rattle.answer.specs.Bytes.{Answers}
@@ -20,7 +22,8 @@ use Rattle.network.specs.Numbers.{answerOf as verdictAnswer, answerOfStart}
 use Rattle.network.specs.Refined.{Refined}
 use Rattle.network.specs.Prepared.{Prepared}
 use Rattle.network.specs.Ran.{leftBy, startsFrom, ranFrom, Ran}
-use Rattle.filing.specs.Areas.{Areas, holding, areLent}
+use Rattle.filing.specs.Areas.{Areas, holding, Lent, areLent, lentIdentifiers, lentCells}
+use Rattle.filing.proofs.Lending.{lent-so}
 use Rattle.scene.specs.declared.Reading.{Reading}
 use Rattle.scene.specs.declared.Reading.the-variants.{WrongLength}
 use Rattle.scene.specs.declared.Refusal.{Refusal}
@@ -28,13 +31,15 @@ use Rattle.scene.specs.declared.Refusal.the-variants.{NoRegion, CutShort, Unkno
 use Rattle.scene.specs.Numbers.{numberOf, answerOf as readingAnswer}
 use Rattle.scene.specs.Reading.{readOf, refusedAt}
 use Rattle.scene.specs.Reads.{Reads, areasAfter}
+use Rattle.scene.proofs.Endings.{wrong-areas}
 use Rattle.writer.specs.declared.Writing.{Writing}
 use Rattle.writer.specs.Numbers.{answerOf as writingAnswer}
 use Rattle.writer.specs.Writes.{Writes}
 use Rattle.chachaqom.specs.RefineExport.{RefineExport}
 use Rattle.chachaqom.specs.PrepareExport.{PrepareExport}
 use Rattle.chachaqom.specs.RunExport.{isArea, areaOf, runOf, RunExport}
-use Rattle.chachaqom.specs.ReadExport.{lentBytes, ReadExport}
+use Rattle.chachaqom.specs.ReadExport.{lentIn, lentBytes, ReadExport}
+use Rattle.chachaqom.specs.Inner.{HandedOver}
 use Rattle.chachaqom.specs.WriteExport.{identifiersLent, WriteExport}
 
 -- ---- refining
@@ -131,50 +136,88 @@ run-answered {n} {area} {most} {from} {first} {second} {answer} h i f r e a =
 -- ---- reading
 
 -- an answer area of another length
-pub read-unfit : (scene identifiers cells answer : List ℕ) → (length answer ≡ 20 → ⊥)
-    → ReadExport scene identifiers cells answer identifiers cells answer 2
-read-unfit scene identifiers cells answer h = record {
+pub read-unfit : (scene identifiers cells marks answer : List ℕ) → (length answer ≡ 20 → ⊥)
+    → ReadExport scene identifiers cells marks answer identifiers cells marks answer 2
+read-unfit scene identifiers cells marks answer h = record {
   answers = unfit-answers _ answer h;
   inIdentifiers = unfit-leaves answer _ identifiers h;
   inCells = unfit-leaves answer _ cells h;
+  inMarks = unfit-leaves answer _ marks h;
 }
 
--- identifiers of another length: 2, and both areas as they were
-nothing-lent : (scene identifiers cells : List ℕ) → (length identifiers ≡ 256 → ⊥) → readOf scene (lentBytes identifiers cells) ≡ refusedAt 2 0
-unfolding readOf areLent
-nothing-lent scene identifiers cells h = rw (ne-eqb (length identifiers) 256 h)
+-- identifiers or marks of another length lend too few
+no-identifiers : (identifiers cells marks : List ℕ) → (length identifiers ≡ 256 → ⊥) → Lent (lentBytes identifiers cells marks) → ⊥
+no-identifiers identifiers cells marks h lent =
+    let none : lentIn 256 lentIdentifiers identifiers ≡ [] = rw (ne-eqb (length identifiers) 256 h) in
+    omega (arith, lent .identifiers-long, ap length none)
+
+no-marks : (identifiers cells marks : List ℕ) → (length marks ≡ 8192 → ⊥) → Lent (lentBytes identifiers cells marks) → ⊥
+no-marks identifiers cells marks h lent =
+    let none : lentIn 8192 lentCells marks ≡ [] = rw (ne-eqb (length marks) 8192 h) in
+    omega (arith, lent .marks-long, ap length none)
+
+-- which is 2, and all areas as they were
+nothing-lent : (scene : List ℕ) (areas : Areas) → (Lent areas → ⊥) → readOf scene areas ≡ refusedAt 2 0
+nothing-lent scene areas h = wrong-areas scene areas (by-test (areLent areas) (λ e. absurd (h (lent-so areas e))) (λ e. e))
 
 untouched : (areas : Areas) → areasAfter (refusedAt 2 0) areas ≡ areas
 unfolding areasAfter
 untouched areas = refl
 
-pub read-unlent : {scene identifiers cells answer answer′ : List ℕ} {number : ℕ} {numbers : Answer} → length answer ≡ 20
-    → (length identifiers ≡ 256 → ⊥) → numbers ≡ readingAnswer WrongLength → Answers numbers answer answer′ number
-    → ReadExport scene identifiers cells answer identifiers cells answer′ number
-read-unlent {scene} {identifiers} {cells} {answer} h l e a =
-    let ending : readOf scene (lentBytes identifiers cells) ≡ refusedAt 2 0 = nothing-lent scene identifiers cells l in
+read-unlent : {scene identifiers cells marks answer answer′ : List ℕ} {number : ℕ} {numbers : Answer} → length answer ≡ 20
+    → (Lent (lentBytes identifiers cells marks) → ⊥) → numbers ≡ readingAnswer WrongLength → Answers numbers answer answer′ number
+    → ReadExport scene identifiers cells marks answer identifiers cells marks answer′ number
+read-unlent {scene} {identifiers} {cells} {marks} {answer} h l e a =
+    let ending : readOf scene (lentBytes identifiers cells marks) ≡ refusedAt 2 0 = nothing-lent scene (lentBytes identifiers cells marks) l in
     record {
       answers = same-answers (e ∙ sym (ap answered ending)) a;
       inIdentifiers = fit-leaves answer identifiers h (rw ending);
       inCells = fit-leaves answer cells h
-          (rw ending (sym (ap (λ (x : Areas). x .cells) (untouched (lentBytes identifiers cells)))));
+          (rw ending (sym (ap (λ (x : Areas). x .cells) (untouched (lentBytes identifiers cells marks)))));
+      inMarks = fit-leaves answer marks h (rw ending);
     }
 
--- what the reading left, and its numbers; after 2 the identifiers are as they were
-pub read-answered : {scene identifiers cells answer numbers identifiers′ cells′ answer′ : List ℕ} {number : ℕ} {reading : Reading} {told : Answer}
-    → length answer ≡ 20 → length identifiers ≡ 256 → Reads scene (holding (replicate 64 0) cells) (holding numbers cells′) reading
-    → identifiers′ ≡ cond (eqb (readingAnswer reading .number) 2) identifiers (numbersBytes numbers) → told ≡ readingAnswer reading
-    → Answers told answer answer′ number → ReadExport scene identifiers cells answer identifiers′ cells′ answer′ number
-read-answered {scene} {identifiers} {cells} {answer} {numbers} h l r i e a =
-    let lent : lentBytes identifiers cells ≡ holding (replicate 64 0) cells = rw (eq-eqb (length identifiers) 256 l) in
+module _ {scene identifiers cells marks answer answer′ : List ℕ} {number : ℕ} {numbers : Answer} (h : length answer ≡ 20) where
+  pub read-no-identifiers : (length identifiers ≡ 256 → ⊥) → numbers ≡ readingAnswer WrongLength → Answers numbers answer answer′ number
+      → ReadExport scene identifiers cells marks answer identifiers cells marks answer′ number
+  read-no-identifiers l = read-unlent h (no-identifiers identifiers cells marks l)
+
+  pub read-no-marks : (length marks ≡ 8192 → ⊥) → numbers ≡ readingAnswer WrongLength → Answers numbers answer answer′ number
+      → ReadExport scene identifiers cells marks answer identifiers cells marks answer′ number
+  read-no-marks l = read-unlent h (no-marks identifiers cells marks l)
+
+-- areas of the right lengths as they are lent
+pub lent-whole : (identifiers cells marks : List ℕ) → length identifiers ≡ 256 → length marks ≡ 8192
+    → lentBytes identifiers cells marks ≡ holding (replicate 64 0) cells (replicate 4096 0)
+lent-whole identifiers cells marks l k = rw (eq-eqb (length identifiers) 256 l, eq-eqb (length marks) 8192 k)
+
+-- what the reading left, and its numbers; after 2 identifiers and marks are as they were
+pub read-answered : {scene identifiers cells marks answer numbers statements identifiers′ cells′ marks′ answer′ : List ℕ} {number : ℕ}
+    {reading : Reading} {told : Answer} → length answer ≡ 20 → length identifiers ≡ 256 → length marks ≡ 8192
+    → Reads scene (holding (replicate 64 0) cells (replicate 4096 0)) (holding numbers cells′ statements) reading
+    → HandedOver (readingAnswer reading .number) numbers statements identifiers marks identifiers′ marks′ → told ≡ readingAnswer reading
+    → Answers told answer answer′ number → ReadExport scene identifiers cells marks answer identifiers′ cells′ marks′ answer′ number
+read-answered {scene} {identifiers} {cells} {marks} {answer} {numbers} {statements} h l k r o e a =
+    let before : Areas = holding (replicate 64 0) cells (replicate 4096 0) in
+    let lent = lent-whole identifiers cells marks l k in
     record {
       answers = rw lent (same-answers (e ∙ r .answer) a);
       inIdentifiers = fit-leaves answer identifiers h
           (rw lent
-          (i ∙ ap (λ (x : Answer). cond (eqb (x .number) 2) identifiers (numbersBytes numbers)) (r .answer)
-          ∙ ap (λ (x : Areas). cond (eqb (answered (readOf scene (holding (replicate 64 0) cells)) .number) 2) identifiers (numbersBytes (x .identifiers))) (r .areas)));
+          (o .inIdentifiers ∙ ap (λ (x : Answer). cond (eqb (x .number) 2) identifiers (numbersBytes numbers)) (r .answer)
+          ∙ ap (λ (x : Areas). cond (eqb (answered (readOf scene before) .number) 2) identifiers (numbersBytes (x .identifiers))) (r .areas)));
       inCells = fit-leaves answer cells h (rw lent (ap (λ (x : Areas). x .cells) (r .areas)));
+      inMarks = fit-leaves answer marks h
+          (rw lent
+          (o .inMarks ∙ ap (λ (x : Answer). cond (eqb (x .number) 2) marks (twoBytesEach statements)) (r .answer)
+          ∙ ap (λ (x : Areas). cond (eqb (answered (readOf scene before) .number) 2) marks (twoBytesEach (x .marks))) (r .areas)));
     }
+
+-- what a reading leaves is handed over as bytes where its number is not 2
+pub handed-over : {number : ℕ} {numbers statements identifiers marks identifiers′ marks′ : List ℕ} → eqb number 2 ≡ false
+    → identifiers′ ≡ numbersBytes numbers → marks′ ≡ twoBytesEach statements
+    → HandedOver number numbers statements identifiers marks identifiers′ marks′
+handed-over h e f = record { inIdentifiers = rw h e; inMarks = rw h f }
 
 -- no refused record has the number 2
 pub not-two : (refusal : Refusal) → eqb (numberOf refusal) 2 ≡ false

@@ -1,4 +1,5 @@
--- The round trip about the calls for C: what `chachaqom_write` wrote, `chachaqom_read` reads back to the same identifiers and cells.
+-- The round trip about the calls for C: what `chachaqom_write` wrote, `chachaqom_read` reads back to the same identifiers and cells, with
+-- the marks of the written scene.
 use mathlib.Core.Path.{_≡_, refl, sym, ap, _∙_}
 use mathlib.Core.List.{List, [], _∷_, _++_, append-assoc}
 use Prim.Native.Nat.{ℕ, zero, suc, _+_, _-_, _*_, _≤_, _<_}
@@ -8,16 +9,17 @@ use borrow.Fn.Kinds.{Dens, resT, endedOf}
 use contract.Lifetimes.{Lfts}
 use denote.Ref.{now}
 use denote.Triple.Clauses.{AtExit}
-use lib.ListN.{length, getD, take, replicate, length-replicate}
+use lib.ListN.{length, getD, take, replicate}
 use lib.Seq.{take-suc, take-all, take-at}
 use Rattle.lists.proofs.Splits.{split-eq}
-use Rattle.lists.specs.BigEndian.{AllBytes, numberAt, numbersBytes, numbersIn}
+use Rattle.lists.specs.BigEndian.{AllBytes, numberAt, numbersBytes, numbersIn, twoBytesEach}
 use Rattle.lists.proofs.LaidLaws.{take-laid}
 use Rattle.lists.proofs.BigEndianLaws.{bytes-of-number, number-small}
 use Rattle.answer.specs.Ending.{Ending, answered}
 use Rattle.filing.specs.Said.{Said, regions}
 use Rattle.filing.specs.Stated.{cellsOf}
-use Rattle.filing.specs.Areas.{Areas, holding, Lent}
+use Rattle.filing.specs.Marks.{marksOf}
+use Rattle.filing.specs.Areas.{Areas, Lent, lentCells, padded}
 use Rattle.scene.specs.Reading.{acceptedSaid, readScene, readOf}
 use Rattle.scene.specs.Reads.{startingCell, areasAfter}
 use Rattle.scene.proofs.Small.{one-more-small}
@@ -26,14 +28,15 @@ use Rattle.writer.specs.Scene.{sceneOf}
 use Rattle.writer.specs.Writable.{Writable}
 use Rattle.writer.specs.Writing.{written, writeOf}
 use Rattle.writer.specs.Writes.{bufferAfter}
-use Rattle.writer.specs.RoundTrip.{Words}
+use Rattle.writer.specs.RoundTrip.{Words, writtenMarks}
 use Rattle.writer.proofs.WriteLaws.{is-written, written-or-refused}
-use Rattle.writer.proofs.RoundTrip.{says, read-back, made-back}
+use Rattle.writer.proofs.RoundTrip.{says, read-back, made-back, marked-back}
 use Rattle.chachaqom.specs.ReadExport.{lentBytes, identifierBytesAfter, ReadExport}
 use Rattle.chachaqom.specs.WriteExport.{identifiersLent, WriteExport}
 use Rattle.chachaqom.specs.RoundTripExports.{RestoredBytes}
 use Rattle.chachaqom.proofs.Crossed.{numbers-both, numbers-one}
 use Rattle.chachaqom.proofs.Wide.{read-read-back, write-read-back}
+use Rattle.chachaqom.proofs.MarksCross.{whole-lent, marks-cross}
 use Rattle.chachaqom.proofs.write.chachaqom_write.Kinds as writing
 use Rattle.chachaqom.proofs.write.chachaqom_write.Reads.{Post as Writes}
 use Rattle.chachaqom.proofs.read.chachaqom_read.Kinds as reading
@@ -117,39 +120,41 @@ module _ {n : ℕ} {identifiers cells buffer answer buffer′ answer′ : List �
       ap (take (length scene)) (write .inBuffer ∙ rw (eq-eqb (length answer) 20 fit, done .ending))
       ∙ take-laid (length scene) scene buffer (omega arith) ∙ take-all (length scene) scene (omega arith)
 
-  module _ {identifiers″ cells″ answer″ identifiers‴ cells‴ answer‴ : List ℕ} {other : ℕ}
-      (read : ReadExport (take (length (sceneOf n (identifiersLent n identifiers) cells)) buffer′) identifiers″ cells″ answer″ identifiers‴ cells‴ answer‴ other)
-      (long : length identifiers″ ≡ 256) (all : length cells″ ≡ 4096) (fit″ : length answer″ ≡ 20) where
+  module _ {identifiers″ cells″ marks″ answer″ identifiers‴ cells‴ marks‴ answer‴ : List ℕ} {other : ℕ}
+      (read : ReadExport (take (length (sceneOf n (identifiersLent n identifiers) cells)) buffer′) identifiers″ cells″ marks″ answer″ identifiers‴ cells‴ marks‴ answer‴ other)
+      (long : length identifiers″ ≡ 256) (all : length cells″ ≡ 4096) (each : length marks″ ≡ 8192) (fit″ : length answer″ ≡ 20) where
     abbrev scene : List ℕ
     scene = take (length (sceneOf n (identifiersLent n identifiers) cells)) buffer′
 
     abbrev areas : Areas
-    areas = lentBytes identifiers″ cells″
+    areas = lentBytes identifiers″ cells″ marks″
 
-    areas-are : areas ≡ holding (replicate 64 0) cells″
-    areas-are = rw (eq-eqb (length identifiers″) 256 long)
-
-    lent : Lent (lentBytes identifiers″ cells″)
-    lent = rw areas-are (record { identifiers-long = length-replicate {A = ℕ} 64 0; cells-long = all })
+    lent : Lent (lentBytes identifiers″ cells″ marks″)
+    lent = whole-lent identifiers″ cells″ marks″ long all each
 
     abbrev said : Said
     said = says n names cells (done .writable) words
 
+    alone : readScene scene ≡ acceptedSaid said
+    alone = ap readScene front ∙ read-back n names cells (done .writable) words
+
     ending : readOf scene areas ≡ acceptedSaid said
-    ending = right-areas scene lent ∙ ap readScene front ∙ read-back n names cells (done .writable) words
+    ending = right-areas scene lent ∙ alone
 
     counted : regions said ≡ n
     counted = done .writable .sized .regions
 
-    pub round-trip-restores : RestoredBytes n identifiers cells identifiers‴ cells‴ answer‴ other
+    pub round-trip-restores : RestoredBytes n identifiers cells identifiers‴ cells‴ marks‴ answer‴ other
     unfolding areasAfter
     round-trip-restores =
         let cells-are : cellsOf startingCell said ≡ cells = made-back n names cells (done .writable) words (write .cells-bytes) in
+        let marks-are : marksOf startingCell said ≡ writtenMarks n cells =
+        marked-back n names cells (done .writable) words (write .cells-bytes) in
         let zeros : List ℕ = replicate (64 - length names) 0 in
         let left : identifiers‴ ≡ numbersBytes (names ++ zeros) =
         read .inIdentifiers
         ∙ rw (eq-eqb (length answer″) 20 fit″)
-        (ap (λ (o : Ending Said). identifierBytesAfter o identifiers″ cells″) ending ∙ rw (eq-eqb (length identifiers″) 256 long)) in
+        (ap (λ (o : Ending Said). identifierBytesAfter o identifiers″ cells″ marks″) ending ∙ rw (lent .identifiers-long)) in
         let shown : numbersBytes names ≡ identifiers =
         ap numbersBytes names-are ∙ numbers-back n identifiers (write .identifiers-bytes) (omega (arith, lent-so))
         ∙ take-all (4 * n) identifiers (omega (arith, lent-so)) in
@@ -160,17 +165,20 @@ module _ {n : ℕ} {identifiers cells buffer answer buffer′ answer′ : List �
               ∙ take-at (numbersBytes names) (numbersBytes zeros) (4 * n) (ap length shown ∙ lent-so) ∙ shown;
           same-cells = read .inCells
               ∙ rw (eq-eqb (length answer″) 20 fit″) (ap (λ (o : Ending Said). areasAfter o areas .cells) ending ∙ rw (all, cells-are));
+          written-marks = marks-cross read long all each fit″ alone ∙ ap (λ (m : List ℕ). twoBytesEach (padded lentCells m)) marks-are;
         }
 
 -- about the calls themselves: the scene is as long as the fifth number of the writer's answer says
 pub round-trip-calls : (κs : Lfts 4) (a : Dens κs writing.ps) (number : resT writing.r κs .Denot)
-    (s : AtExit (endedOf 4 writing.ps writing.r) κs) (μs : Lfts 4) (b : Dens μs reading.ps) (other : resT reading.r μs .Denot)
-    (t : AtExit (endedOf 4 reading.ps reading.r) μs) → Writes κs a number s → Reads μs b other t
+    (s : AtExit (endedOf 4 writing.ps writing.r) κs) (μs : Lfts 5) (b : Dens μs reading.ps) (other : resT reading.r μs .Denot)
+    (t : AtExit (endedOf 5 reading.ps reading.r) μs) → Writes κs a number s → Reads μs b other t
     → length (now (a .1 .1 .1 .1 .0)) ≡ 20 → number ≡ 0
     → now (b .0) ≡ take (numberAt (now (s .1 .1 .1 .1 .0)) 16) (now (s .1 .1 .1 .0))
-    → length (now (b .1 .0)) ≡ 256 → length (now (b .1 .1 .0)) ≡ 4096 → length (now (b .1 .1 .1 .0)) ≡ 20
-    → RestoredBytes (a .0) (now (a .1 .0)) (now (a .1 .1 .0)) (now (t .1 .0)) (now (t .1 .1 .0)) (now (t .1 .1 .1 .0)) other
-round-trip-calls κs a number s μs b other t write read fit good e long all fit″ =
+    → length (now (b .1 .0)) ≡ 256 → length (now (b .1 .1 .0)) ≡ 4096 → length (now (b .1 .1 .1 .0)) ≡ 8192
+    → length (now (b .1 .1 .1 .1 .0)) ≡ 20
+    → RestoredBytes (a .0) (now (a .1 .0)) (now (a .1 .1 .0)) (now (t .1 .0)) (now (t .1 .1 .0)) (now (t .1 .1 .1 .0))
+    (now (t .1 .1 .1 .1 .0)) other
+round-trip-calls κs a number s μs b other t write read fit good e long all each fit″ =
     let length-told : numberAt (now (s .1 .1 .1 .1 .0)) 16 ≡ length (sceneOf (a .0) (identifiersLent (a .0) (now (a .1 .0))) (now (a .1 .1 .0))) =
     write-read-back write fit .count ∙ ap (λ (o : Ending (List ℕ)). answered o .count) (done write fit good .ending) in
-    round-trip-restores write fit good (rw (e, length-told) at read) long all fit″
+    round-trip-restores write fit good (rw (e, length-told) at read) long all each fit″

@@ -41,14 +41,18 @@ pub run-unique : (κs : Lfts 3) (a : Dens κs run-kinds.ps) (r r' : resT run-kin
 run-unique κs a r r' s s' p q =
     (one-answer (p .answers) (q .answers), p .inFirst ∙ sym (q .inFirst), p .inSecond ∙ sym (q .inSecond))
 
--- the number, the answer, the identifiers and the cells
-pub read-unique : (κs : Lfts 4) (a : Dens κs read-kinds.ps) (r r' : resT read-kinds.r κs .Denot)
-    (s s' : AtExit (endedOf 4 read-kinds.ps read-kinds.r) κs)
+-- the number, the answer, the identifiers, the cells and the marks
+pub read-unique : (κs : Lfts 5) (a : Dens κs read-kinds.ps) (r r' : resT read-kinds.r κs .Denot)
+    (s s' : AtExit (endedOf 5 read-kinds.ps read-kinds.r) κs)
     → read-reads.Post κs a r s → read-reads.Post κs a r' s'
-    → ((r ≡ r') × (now (s .1 .1 .1 .0) ≡ now (s' .1 .1 .1 .0)))
-    × (now (s .1 .0) ≡ now (s' .1 .0)) × (now (s .1 .1 .0) ≡ now (s' .1 .1 .0))
-read-unique κs a r r' s s' p q =
-    (one-answer (p .answers) (q .answers), p .inIdentifiers ∙ sym (q .inIdentifiers), p .inCells ∙ sym (q .inCells))
+    → ((r ≡ r') × (now (s .1 .1 .1 .1 .0) ≡ now (s' .1 .1 .1 .1 .0)))
+    × (now (s .1 .0) ≡ now (s' .1 .0)) × (now (s .1 .1 .0) ≡ now (s' .1 .1 .0)) × (now (s .1 .1 .1 .0) ≡ now (s' .1 .1 .1 .0))
+read-unique κs a r r' s s' p q = (
+  one-answer (p .answers) (q .answers),
+  p .inIdentifiers ∙ sym (q .inIdentifiers),
+  p .inCells ∙ sym (q .inCells),
+  p .inMarks ∙ sym (q .inMarks),
+)
 
 -- the number, the answer and the buffer
 pub write-unique : (κs : Lfts 4) (a : Dens κs write-kinds.ps) (r r' : resT write-kinds.r κs .Denot)

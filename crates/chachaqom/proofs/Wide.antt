@@ -162,10 +162,10 @@ run-read-back {n} {area} {most} {first} {second} x h =
 read-fits : (scene : List ℕ) (areas : Areas) → Fits (answered (readOf scene areas))
 read-fits scene areas = let s = read-small scene areas in omega (arith, s .number, s .offset, s .second, s .third, s .count)
 
-pub read-read-back : {scene identifiers cells answer identifiers′ cells′ answer′ : List ℕ} {number : ℕ}
-    → ReadExport scene identifiers cells answer identifiers′ cells′ answer′ number → length answer ≡ 20
-    → ReadBack (answered (readOf scene (lentBytes identifiers cells))) answer′
-read-read-back {scene} {identifiers} {cells} x h = read-back (read-fits scene (lentBytes identifiers cells)) (x .answers) h
+pub read-read-back : {scene identifiers cells marks answer identifiers′ cells′ marks′ answer′ : List ℕ} {number : ℕ}
+    → ReadExport scene identifiers cells marks answer identifiers′ cells′ marks′ answer′ number → length answer ≡ 20
+    → ReadBack (answered (readOf scene (lentBytes identifiers cells marks))) answer′
+read-read-back {scene} {identifiers} {cells} {marks} x h = read-back (read-fits scene (lentBytes identifiers cells marks)) (x .answers) h
 
 -- ---- writing
 

@@ -4,6 +4,8 @@ pub mod PrepareExport
 pub mod RunExport
 pub mod ReadExport
 pub mod WriteExport
+-- inside the crate
+pub mod Inner
 -- what the theorems say of them
 pub mod ReadBack
 pub mod RefineDemand

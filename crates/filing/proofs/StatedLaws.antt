@@ -45,9 +45,13 @@ module _ (start : ℕ → ℕ → ℕ) where
   narrowed-within true x s = within-left x s
   narrowed-within false x s = within-refl x
 
+  pub stated-step : (s : Statement) (l : List Statement) (i j : ℕ) → Within (statedCell start (s ∷ l) i j) (statedCell start l i j)
+  unfolding statedCell
+  stated-step s l i j = narrowed-within (eqb (s .from) i && eqb (s .to) j) (statedCell start l i j) (s .set)
+
   -- no statement adds to a cell
   pub stated-within : (l : List Statement) (i j : ℕ) → Within (statedCell start l i j) (start i j)
   unfolding statedCell
   stated-within [] i j = within-refl (start i j)
   stated-within (s ∷ l) i j =
-      within-trans (narrowed-within (eqb (s .from) i && eqb (s .to) j) (statedCell start l i j) (s .set)) (stated-within l i j)
+      within-trans (stated-step s l i j) (stated-within l i j)

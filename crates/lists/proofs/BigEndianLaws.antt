@@ -1,4 +1,4 @@
--- Numbers and their four bytes: there and back, how long they are, and what putting them into an area leaves.
+-- Numbers and their bytes, four or two: there and back, how long they are, and what putting them into an area leaves.
 use mathlib.Core.Path.{_≡_, sym}
 use mathlib.Core.List.{List, [], _∷_, _++_, append-assoc}
 use Prim.Native.Nat.{ℕ, _+_, _*_, _/_, _%_, _≤_, _<_}
@@ -8,7 +8,7 @@ use native.Mathlib.Omega.{arith}
 use borrow.Author.Tests.{le-leb, lt-leb}
 use lib.ListN.{length, getD, take, drop, length-append, List·getD-eq-default}
 use lib.Seq.{sets, sets-eq, take-at, length-take-le, length-sets, getD-append-add}
-use Rattle.lists.specs.BigEndian.{AllBytes, numberAt, bigEndian, numberPut}
+use Rattle.lists.specs.BigEndian.{AllBytes, numberAt, bigEndian, numberPut, twoBytes, twoBytesPut}
 use Rattle.lists.specs.Inner.{Byte}
 
 -- four bytes put together, and taken apart again
@@ -70,11 +70,35 @@ put-fits area at x h = rw (le-leb (at + 4) (length area) h)
 pub put-no-room : (area : List ℕ) (at x : ℕ) → length area < at + 4 → numberPut area at x ≡ area
 put-no-room area at x h = rw (lt-leb (at + 4) (length area) h)
 
--- a number put right behind a front makes the front longer by its bytes
+-- bytes put right behind a front make it longer
+pub sets-behind : (area front bytes : List ℕ) (at : ℕ) → at + length bytes ≤ length area → take at area ≡ front
+    → (take (at + length bytes) (sets area at bytes) ≡ front ++ bytes) × (length (sets area at bytes) ≡ length area)
+sets-behind area front bytes at h e =
+    let long : length (front ++ bytes) ≡ at + length bytes =
+    rw (← e) (simp length-append (omega (arith, length-take-le at area (omega arith)))) in (
+      rw (sets-eq bytes area at h, e) (take-at (front ++ bytes) (drop (at + length bytes) area) (at + length bytes) long),
+      length-sets area at bytes,
+    )
+
+-- so do those of a number
 pub put-behind : (area area′ front : List ℕ) (at x : ℕ) → at + 4 ≤ length area → take at area ≡ front → area′ ≡ numberPut area at x
     → (take (at + 4) area′ ≡ front ++ bigEndian x) × (length area′ ≡ length area)
-put-behind area area′ front at x h e q =
-    let long : length (front ++ bigEndian x) ≡ at + 4 = rw (← e) (simp length-append (omega (arith, length-take-le at area (omega arith)))) in (
-      rw (q, put-fits area at x h, sets-eq (bigEndian x) area at h, e) (take-at (front ++ bigEndian x) (drop (at + 4) area) (at + 4) long),
-      rw (q, put-fits area at x h) (length-sets area at (bigEndian x)),
-    )
+put-behind area area′ front at x h e q = rw (q, put-fits area at x h) (sets-behind area front (bigEndian x) at h e)
+
+-- ---- numbers of 16 bits
+
+-- a number of 16 bits is what its two bytes make
+pub two-joined : (x : ℕ) → x < 65536 → x / 256 % 256 * 256 + x % 256 ≡ x
+two-joined x h =
+    let small : x / 256 % 256 ≡ x / 256 = omega arith in rw small (omega (arith, div-add-mod' x 256))
+
+-- it is put where its two bytes fit, and else nothing is written
+pub two-fit : (area : List ℕ) (at x : ℕ) → at + 2 ≤ length area → twoBytesPut area at x ≡ sets area at (twoBytes x)
+two-fit area at x h = rw (le-leb (at + 2) (length area) h)
+
+pub two-no-room : (area : List ℕ) (at x : ℕ) → length area < at + 2 → twoBytesPut area at x ≡ area
+two-no-room area at x h = rw (lt-leb (at + 2) (length area) h)
+
+pub two-behind : (area area′ front : List ℕ) (at x : ℕ) → at + 2 ≤ length area → take at area ≡ front → area′ ≡ twoBytesPut area at x
+    → (take (at + 2) area′ ≡ front ++ twoBytes x) × (length area′ ≡ length area)
+two-behind area area′ front at x h e q = rw (q, two-fit area at x h) (sets-behind area front (twoBytes x) at h e)

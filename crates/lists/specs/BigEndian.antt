@@ -1,4 +1,4 @@
--- Numbers of 32 bits as bytes, big-endian.
+-- Numbers of 32 bits and of 16 bits as bytes, big-endian.
 use mathlib.Core.Bool.{cond}
 use mathlib.Core.List.{List, [], _∷_, _++_}
 use Prim.Native.Nat.{ℕ, zero, suc, _+_, _*_, _/_, _%_, _<_}
@@ -31,3 +31,16 @@ numbersBytes (x ∷ xs) = bigEndian x ++ numbersBytes xs
 unfoldable pub numbersIn : ℕ → List ℕ → List ℕ
 numbersIn zero bytes = []
 numbersIn (suc count) bytes = numbersIn count bytes ++ (numberAt bytes (4 * count) ∷ [])
+
+-- a number of 16 bits as its two bytes
+abbrev pub twoBytes : ℕ → List ℕ
+twoBytes x = x / 256 % 256 ∷ x % 256 ∷ []
+
+-- an area after a number's two bytes are put at an offset, if both fit
+abbrev pub twoBytesPut : List ℕ → ℕ → ℕ → List ℕ
+twoBytesPut area at x = cond (leb (at + 2) (length area)) (sets area at (twoBytes x)) area
+
+-- numbers as bytes, two bytes each, one after the other
+unfoldable pub twoBytesEach : List ℕ → List ℕ
+twoBytesEach [] = []
+twoBytesEach (x ∷ xs) = twoBytes x ++ twoBytesEach xs

@@ -1,7 +1,7 @@
-// What every layer does to lists: the least entry that passes a test, an area that is filled in front, numbers of 32 bits as bytes,
-// big-endian. Every call is total.
+// What every layer does to lists: the least entry that passes a test, an area that is filled in front, numbers of 32 and of 16 bits as
+// bytes, big-endian. Every call is total.
 ghost use mathlib.Core.Path.{_≡_};
-ghost use Rattle.lists.specs.BigEndian.{numberAt, numberPut};
+ghost use Rattle.lists.specs.BigEndian.{numberAt, numberPut, twoBytesPut};
 ghost use Rattle.lists.specs.Inner.{Byte};
 
 // The byte so many bytes behind an offset; past the end it counts as 0.
@@ -41,4 +41,18 @@ pub fn put_number(area: &mut [u8], at: usize, number: u32)
     area[at + 1] = (number / 65536 % 256) as u8;
     area[at + 2] = (number / 256 % 256) as u8;
     area[at + 3] = (number % 256) as u8;
+}
+
+// A number of 16 bits into the two bytes that begin at an offset, if both are there.
+pub fn put_two_bytes(area: &mut [u8], at: usize, number: u16)
+    ensures { λ _. ⌜ now (area .exit) ≡ twoBytesPut (now (area .entry)) at number ⌝ }
+{
+    if area.len() <= at {
+        return;
+    }
+    if area.len() - at < 2 {
+        return;
+    }
+    area[at] = (number / 256 % 256) as u8;
+    area[at + 1] = (number % 256) as u8;
 }

@@ -18,6 +18,7 @@ use Rattle.refinement.specs.Refine.{mostRounds, rounds, refine}
 use Rattle.scene.specs.Format.{lengthOf}
 use Rattle.filing.specs.Places.{placeOf}
 use Rattle.filing.specs.Stated.{statedCell}
+use Rattle.filing.specs.Marks.{markOf}
 use Rattle.scene.specs.Record.{judgedRegion, judgedStatement, judgedEnd, recordAt}
 use Rattle.scene.specs.Reading.{readFrom, readScene}
 use Rattle.text.specs.Decimal.{decimalUpTo}
@@ -35,33 +36,34 @@ example third =
     ++ (2 ∷ 0 ∷ 0 ∷ 0 ∷ 9 ∷ 0 ∷ 0 ∷ 0 ∷ 4 ∷ 8 ∷ [])
     ++ (3 ∷ [])
 
--- its report: `accepted 3 1`, `7 9 8 O`, `7 4 8 D`, `9 4 8 O`, each with a line feed
+-- its report: `accepted 3 1`, `7 9 8 O 1 0`, `7 4 8 D 0 0`, `9 4 8 O 2 0`, each with a line feed
 pub example-text : List ℕ
 example-text =
     (97 ∷ 99 ∷ 99 ∷ 101 ∷ 112 ∷ 116 ∷ 101 ∷ 100 ∷ 32 ∷ 51 ∷ 32 ∷ 49 ∷ 10 ∷ [])
-    ++ (55 ∷ 32 ∷ 57 ∷ 32 ∷ 56 ∷ 32 ∷ 79 ∷ 10 ∷ [])
-    ++ (55 ∷ 32 ∷ 52 ∷ 32 ∷ 56 ∷ 32 ∷ 68 ∷ 10 ∷ [])
-    ++ (57 ∷ 32 ∷ 52 ∷ 32 ∷ 56 ∷ 32 ∷ 79 ∷ 10 ∷ [])
+    ++ (55 ∷ 32 ∷ 57 ∷ 32 ∷ 56 ∷ 32 ∷ 79 ∷ 32 ∷ 49 ∷ 32 ∷ 48 ∷ 10 ∷ [])
+    ++ (55 ∷ 32 ∷ 52 ∷ 32 ∷ 56 ∷ 32 ∷ 68 ∷ 32 ∷ 48 ∷ 32 ∷ 48 ∷ 10 ∷ [])
+    ++ (57 ∷ 32 ∷ 52 ∷ 32 ∷ 56 ∷ 32 ∷ 79 ∷ 32 ∷ 50 ∷ 32 ∷ 48 ∷ 10 ∷ [])
 
 pub example-report : reportOf (example 4) ≡ example-text
 unfolding reportOf pairLines classOf line decimalUpTo readScene readFrom recordAt judgedRegion judgedStatement judgedEnd placeOf
-    lengthOf lookupOf firstHolding statedCell grid tabled refine preparation stepOf node emptyRegion arc rounds round through
+    lengthOf lookupOf firstHolding statedCell markOf grid tabled refine preparation stepOf node emptyRegion arc rounds round through
     ranOut mostRounds firstEmpty firstChange least leastFrom has unionOf over membersBelow size flip converse rows table compose
     example example-text
 example-report = refl
 
--- the pair 7 and 9 stated backwards alone, "9 contains 7": its report is `accepted 2 0` and `7 9 8 O`
+-- the pair 7 and 9 stated backwards alone, "9 contains 7": its report is `accepted 2 0` and `7 9 8 O 0 1`
 pub backwards : List ℕ
 backwards =
     (1 ∷ 0 ∷ 0 ∷ 0 ∷ 7 ∷ []) ++ (1 ∷ 0 ∷ 0 ∷ 0 ∷ 9 ∷ []) ++ (2 ∷ 0 ∷ 0 ∷ 0 ∷ 9 ∷ 0 ∷ 0 ∷ 0 ∷ 7 ∷ 32 ∷ []) ++ (3 ∷ [])
 
 pub backwards-text : List ℕ
 backwards-text =
-    (97 ∷ 99 ∷ 99 ∷ 101 ∷ 112 ∷ 116 ∷ 101 ∷ 100 ∷ 32 ∷ 50 ∷ 32 ∷ 48 ∷ 10 ∷ []) ++ (55 ∷ 32 ∷ 57 ∷ 32 ∷ 56 ∷ 32 ∷ 79 ∷ 10 ∷ [])
+    (97 ∷ 99 ∷ 99 ∷ 101 ∷ 112 ∷ 116 ∷ 101 ∷ 100 ∷ 32 ∷ 50 ∷ 32 ∷ 48 ∷ 10 ∷ [])
+    ++ (55 ∷ 32 ∷ 57 ∷ 32 ∷ 56 ∷ 32 ∷ 79 ∷ 32 ∷ 48 ∷ 32 ∷ 49 ∷ 10 ∷ [])
 
 pub backwards-report : reportOf backwards ≡ backwards-text
 unfolding reportOf pairLines classOf line decimalUpTo readScene readFrom recordAt judgedRegion judgedStatement judgedEnd placeOf
-    lengthOf lookupOf firstHolding statedCell grid tabled refine preparation stepOf node emptyRegion arc rounds round through
+    lengthOf lookupOf firstHolding statedCell markOf grid tabled refine preparation stepOf node emptyRegion arc rounds round through
     ranOut mostRounds firstEmpty firstChange least leastFrom has unionOf over membersBelow size flip converse rows table compose
     backwards backwards-text
 backwards-report = refl

@@ -14,6 +14,7 @@ use Rattle.answer.specs.Ending.{accepted}
 use Rattle.refinement.specs.Refine.{refine}
 use Rattle.filing.specs.Said.{Said, regions}
 use Rattle.filing.specs.Stated.{cellsOf}
+use Rattle.filing.specs.Marks.{marksOf}
 use Rattle.scene.specs.Reading.{acceptedSaid, readScene}
 use Rattle.scene.specs.Reads.{startingCell}
 use Rattle.report_text.specs.Report.{refinedReport, readReport, reportOf, Reported}
@@ -36,10 +37,13 @@ module _ {scene buffer buffer′ : List ℕ} {count : ℕ} (call : Reported scen
   abbrev stated : List ℕ
   stated = cellsOf startingCell said
 
-  pub report-shows : Shows (regions said) (said .identifiers) (cellsOf startingCell said) network rounds count buffer′
+  abbrev marks : List ℕ
+  marks = marksOf startingCell said
+
+  pub report-shows : Shows (regions said) (said .identifiers) (cellsOf startingCell said) (marksOf startingCell said) network rounds count buffer′
   unfolding reportOf
   report-shows = record {
-    text = printed call ∙ ap readReport read ∙ ap (refinedReport n (said .identifiers) stated) refined;
+    text = printed call ∙ ap readReport read ∙ ap (refinedReport n (said .identifiers) stated marks) refined;
     rule = λ i j h hj. class-rule n stated refined i j (omega arith) hj;
     sizes = λ i j h hj. sizes-occur n stated refined i j (omega arith) hj;
   }
@@ -48,5 +52,5 @@ module _ {scene buffer buffer′ : List ℕ} {count : ℕ} (call : Reported scen
 pub report-call-shows : (κs : Lfts 2) (a : Dens κs reporting.ps) (count : resT reporting.r κs .Denot)
     (s : AtExit (endedOf 2 reporting.ps reporting.r) κs) → Reports κs a count s → {said : Said} {network : List ℕ} {rounds : ℕ}
     → readScene (now (a .0)) ≡ acceptedSaid said → refine (regions said) (cellsOf startingCell said) ≡ accepted network rounds
-    → Shows (regions said) (said .identifiers) (cellsOf startingCell said) network rounds count (now (s .1 .0))
+    → Shows (regions said) (said .identifiers) (cellsOf startingCell said) (marksOf startingCell said) network rounds count (now (s .1 .0))
 report-call-shows κs a count s call read refined = report-shows call read refined

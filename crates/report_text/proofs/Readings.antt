@@ -14,6 +14,7 @@ use Rattle.matrix.proofs.CellLaws.{length-grid}
 use Rattle.refinement.specs.Prepare.{prepared}
 use Rattle.refinement.specs.Refine.{refine}
 use Rattle.filing.specs.Stated.{statedCell}
+use Rattle.filing.specs.Marks.{markOf}
 use Rattle.filing.specs.Areas.{Areas, Lent, holding, padded}
 use Rattle.filing.proofs.Padded.{padded-same}
 use Rattle.scene.specs.declared.Reading.{Reading}
@@ -58,23 +59,26 @@ reported-within {scene} {buffer} {buffer′} {count} r =
 
 -- the areas that the report reads a scene into
 abbrev pub blank : Areas
-blank = holding (replicate 64 0) (replicate 4096 0)
+blank = holding (replicate 64 0) (replicate 4096 0) (replicate 4096 0)
 
 blank-lent : Lent blank
-blank-lent =
-    record { identifiers-long = length-replicate {A = ℕ} 64 0; cells-long = length-replicate {A = ℕ} 4096 0 }
+blank-lent = record {
+  identifiers-long = length-replicate {A = ℕ} 64 0;
+  cells-long = length-replicate {A = ℕ} 4096 0;
+  marks-long = length-replicate {A = ℕ} 4096 0;
+}
 
 -- ---- an accepted scene
 
-abbrev pub AcceptedScene : List ℕ → List ℕ → List ℕ → ℕ → Type 0
-AcceptedScene scene identifiers cells n = AcceptedLeaves scene blank (holding identifiers cells) n
+abbrev pub AcceptedScene : List ℕ → List ℕ → List ℕ → List ℕ → ℕ → Type 0
+AcceptedScene scene identifiers cells marks n = AcceptedLeaves scene blank (holding identifiers cells marks) n
 
-pub accepted-read : {scene identifiers cells : List ℕ} {reading : Reading} {n : ℕ}
-    → Reads scene blank (holding identifiers cells) reading → reading ≡ Accepted n → AcceptedScene scene identifiers cells n
-accepted-read {scene} {identifiers} {cells} r e = accepted-leaves (subst (Reads scene blank (holding identifiers cells)) e r)
+pub accepted-read : {scene identifiers cells marks : List ℕ} {reading : Reading} {n : ℕ}
+    → Reads scene blank (holding identifiers cells marks) reading → reading ≡ Accepted n → AcceptedScene scene identifiers cells marks n
+accepted-read {scene} {identifiers} {cells} {marks} r e = accepted-leaves (subst (Reads scene blank (holding identifiers cells marks)) e r)
 
 -- the cells in front are the stated ones
-module _ {scene identifiers cells : List ℕ} {n : ℕ} (a : AcceptedScene scene identifiers cells n) where
+module _ {scene identifiers cells marks : List ℕ} {n : ℕ} (a : AcceptedScene scene identifiers cells marks n) where
   pub cells-few : n * n ≤ 4096
   cells-few = mul-le-mul (a .few) (a .few)
 
@@ -85,28 +89,37 @@ module _ {scene identifiers cells : List ℕ} {n : ℕ} (a : AcceptedScene scene
     size = ap length (a .cells-front) ∙ length-grid n (statedCell startingCell (a .said .statements));
   }
 
+  -- and so are their marks
+  pub marks-front : Square n (take (n * n) marks)
+  marks-front = record {
+    some = a .some;
+    few = a .few;
+    size = ap length (a .marks-front) ∙ length-grid n (markOf startingCell (a .said .statements));
+  }
+
 -- ---- identifiers and the zeros behind them
 
-module _ (n : ℕ) (one other stated : List ℕ) (same : (k : ℕ) → getD one k 0 ≡ getD other k 0) where
-  same-pairs : (arcs network : List ℕ) (count : ℕ) → pairLines count n one arcs network ≡ pairLines count n other arcs network
+module _ (n : ℕ) (one other stated marks : List ℕ) (same : (k : ℕ) → getD one k 0 ≡ getD other k 0) where
+  same-pairs : (arcs network : List ℕ) (count : ℕ) → pairLines count n one arcs network marks ≡ pairLines count n other arcs network marks
   unfolding pairLines
   same-pairs arcs network zero = refl
   same-pairs arcs network (suc count) = rw (same-pairs arcs network count, same (row n count), same (column n count))
 
-  same-report : (ending : Ending (List ℕ)) → refinedReport n one stated ending ≡ refinedReport n other stated ending
+  same-report : (ending : Ending (List ℕ)) → refinedReport n one stated marks ending ≡ refinedReport n other stated marks ending
   same-report (accepted network count) = rw (same-pairs (prepared n stated) network (n * n))
   same-report (refused x) = rw (same (x .first), same (x .second), same (x .third))
 
-pub accepted-reported : {scene identifiers cells buffer buffer′ : List ℕ} {n count : ℕ} → AcceptedScene scene identifiers cells n
+pub accepted-reported : {scene identifiers cells marks buffer buffer′ : List ℕ} {n count : ℕ} → AcceptedScene scene identifiers cells marks n
     → 131072 ≤ length buffer
-    → Reports (refinedReport n identifiers (take (n * n) cells) (refine n (take (n * n) cells))) buffer buffer′ count
+    → Reports (refinedReport n identifiers (take (n * n) cells) (take (n * n) marks) (refine n (take (n * n) cells))) buffer buffer′ count
     → Reported scene buffer buffer′ count
 unfolding reportOf
-accepted-reported {scene} {identifiers} {cells} {n = n} a long r =
+accepted-reported {scene} {identifiers} {cells} {marks} {n = n} a long r =
     let stated : List ℕ = grid n (statedCell startingCell (a .said .statements)) in
-    let same : readReport (acceptedSaid (a .said)) ≡ refinedReport n identifiers (take (n * n) cells) (refine n (take (n * n) cells)) =
-    rw (a .counted, a .cells-front, a .identifiers-are)
-    (sym (same-report n (padded 64 (a .said .identifiers)) (a .said .identifiers) stated (padded-same 64 (a .said .identifiers)) (refine n stated))) in
+    let marked : List ℕ = grid n (markOf startingCell (a .said .statements)) in
+    let same : readReport (acceptedSaid (a .said)) ≡ refinedReport n identifiers (take (n * n) cells) (take (n * n) marks) (refine n (take (n * n) cells)) =
+    rw (a .counted, a .cells-front, a .marks-front, a .identifiers-are)
+    (sym (same-report n (padded 64 (a .said .identifiers)) (a .said .identifiers) stated marked (padded-same 64 (a .said .identifiers)) (refine n stated))) in
     reported long (ap readReport (a .alone) ∙ same) r
 
 -- ---- a refused scene
@@ -117,23 +130,23 @@ unfolding reportOf
 refused-reported number offset e long adds =
     reported long (ap readReport e) (record { adds = adds; short = omega (arith, refusal-short number offset 0 0) })
 
-module _ {scene identifiers cells buffer buffer′ : List ℕ} {reading : Reading} {count : ℕ}
-    (r : Reads scene blank (holding identifiers cells) reading) (long : 131072 ≤ length buffer) where
+module _ {scene identifiers cells marks buffer buffer′ : List ℕ} {reading : Reading} {count : ℕ}
+    (r : Reads scene blank (holding identifiers cells marks) reading) (long : 131072 ≤ length buffer) where
   -- a record
   pub record-reported : {refusal : Refusal} {offset : ℕ} → reading ≡ Refused refusal offset
       → Adds (refusalLine (numberOf refusal) offset 0 0) buffer 0 buffer′ count → Reported scene buffer buffer′ count
   record-reported {refusal} {offset} e adds =
-      let l = refused-leaves (subst (Reads scene blank (holding identifiers cells)) e r) in
+      let l = refused-leaves (subst (Reads scene blank (holding identifiers cells marks)) e r) in
       refused-reported (numberOf refusal) offset (sym (right-areas scene blank-lent) ∙ l .ending) long adds
 
   -- the length of the scene
   pub length-reported : reading ≡ TooLong → Adds (refusalLine 3 mostBytes 0 0) buffer 0 buffer′ count → Reported scene buffer buffer′ count
   length-reported e adds =
-      let l = too-long-leaves (subst (Reads scene blank (holding identifiers cells)) e r) in
+      let l = too-long-leaves (subst (Reads scene blank (holding identifiers cells marks)) e r) in
       refused-reported 3 mostBytes (sym (right-areas scene blank-lent) ∙ l .ending) long adds
 
 -- the areas have the right lengths
-pub never-wrong : {scene identifiers cells : List ℕ} {reading : Reading} → Reads scene blank (holding identifiers cells) reading
+pub never-wrong : {scene identifiers cells marks : List ℕ} {reading : Reading} → Reads scene blank (holding identifiers cells marks) reading
     → reading ≡ WrongLength → ⊥
-never-wrong {scene} {identifiers} {cells} r e =
-    right-lengths scene blank-lent (wrong-length-leaves (subst (Reads scene blank (holding identifiers cells)) e r) .ending)
+never-wrong {scene} {identifiers} {cells} {marks} r e =
+    right-lengths scene blank-lent (wrong-length-leaves (subst (Reads scene blank (holding identifiers cells marks)) e r) .ending)

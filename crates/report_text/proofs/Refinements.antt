@@ -52,10 +52,11 @@ answer-short identifiers a =
 abbrev area : List ℕ
 area = replicate 4096 0
 
--- what the call is made with: the stated cells, and identifiers of 32 bits
-pub record Call (n : ℕ) (identifiers stated : List ℕ) : Type 0 where
+-- what the call is made with: the stated cells, identifiers of 32 bits and marks of 16
+pub record Call (n : ℕ) (identifiers stated marks : List ℕ) : Type 0 where
   pub stated-so : Square n stated
   pub identifiers-small : (k : ℕ) → getD identifiers k 0 < 4294967296
+  pub marks-small : (k : ℕ) → getD marks k 0 < 65536
 
 -- which are long enough
 lent-range : {n : ℕ} {stated : List ℕ} → Square n stated → InRange n stated (length area) (length area)
@@ -63,7 +64,7 @@ lent-range {n} s =
     let long : n * n ≤ length area = omega (arith, length-replicate {A = ℕ} 4096 0, mul-le-mul (s .few) (s .few)) in
     record { square = s; first-long = long; second-long = long }
 
-module _ {n : ℕ} {identifiers stated first′ second′ : List ℕ} {verdict : Verdict} (c : Call n identifiers stated)
+module _ {n : ℕ} {identifiers stated marks first′ second′ : List ℕ} {verdict : Verdict} (c : Call n identifiers stated marks)
     (v : Refined n stated area area first′ second′ verdict) where
   range : InRange n stated (length area) (length area)
   range = lent-range (c .stated-so)
@@ -78,9 +79,9 @@ module _ {n : ℕ} {identifiers stated first′ second′ : List ℕ} {verdict :
   -- any other verdict's line
   pub refused-reports : {other : Verdict} {b₀ b₁ : List ℕ} {next : ℕ} → verdict ≡ other → (answerOf other .number ≡ 0 → ⊥)
       → Adds (answerLine identifiers (answerOf other)) b₀ 0 b₁ next
-      → Reports (refinedReport n identifiers stated (refine n stated)) b₀ b₁ next
+      → Reports (refinedReport n identifiers stated marks (refine n stated)) b₀ b₁ next
   refused-reports {other} e z a =
-      let same = refused-report range (subst (Refined n stated area area first′ second′) e v) identifiers z in
+      let same = refused-report range (subst (Refined n stated area area first′ second′) e v) identifiers marks z in
       record {
         adds = renamed same a;
         short = subst (λ (t : List ℕ). length t ≤ 131072) same (answer-short identifiers (answerOf other));
@@ -88,12 +89,12 @@ module _ {n : ℕ} {identifiers stated first′ second′ : List ℕ} {verdict :
 
   -- a call within its limits never ends otherwise
   pub never-reports : {other : Verdict} {b₀ b₁ : List ℕ} {next : ℕ} → verdict ≡ other → (Carries n other → ⊥)
-      → Reports (refinedReport n identifiers stated (refine n stated)) b₀ b₁ next
+      → Reports (refinedReport n identifiers stated marks (refine n stated)) b₀ b₁ next
   never-reports e none = absurd (none (subst (Carries n) e (refine-carries range v)))
 
   pub contradiction-reports : {contradiction : Contradiction} {rounds : ℕ} {b₀ b₁ : List ℕ} {next : ℕ}
       → verdict ≡ Refused contradiction rounds → Adds (answerLine identifiers (answerOf (Refused contradiction 0))) b₀ 0 b₁ next
-      → Reports (refinedReport n identifiers stated (refine n stated)) b₀ b₁ next
+      → Reports (refinedReport n identifiers stated marks (refine n stated)) b₀ b₁ next
   contradiction-reports {contradiction} {rounds} e a =
       refused-reports e (contradicted contradiction rounds) (renamed (contradiction-line identifiers contradiction rounds) a)
 
@@ -114,11 +115,12 @@ module _ {n : ℕ} {stated network : List ℕ} {rounds : ℕ} (a : AcceptedMatri
   pub cells-few : n * n ≤ 4096
   cells-few = mul-le-mul (a .stated-so .few) (a .stated-so .few)
 
-  -- n² cells beside those of the network
-  pub network-paired : {cells : List ℕ} → length cells ≡ n * n → Paired n cells network
-  network-paired long = record {
+  -- n² cells and n² marks beside the cells of the network
+  pub network-paired : {cells marks : List ℕ} → length cells ≡ n * n → length marks ≡ n * n → Paired n cells network marks
+  network-paired long marked = record {
     regions = record { some = a .stated-so .some; few = a .stated-so .few; size = long };
     refined = subst (Ends n stated) (a .ending) (refine-ends n stated) .largest .network .size;
+    marked = marked;
   }
 
   module _ {first′ second′ : List ℕ} {start : Start} (prepares : Prepared n stated area area first′ second′ start) where
@@ -137,20 +139,21 @@ module _ {n : ℕ} {stated network : List ℕ} {rounds : ℕ} (a : AcceptedMatri
     arcs-long = ap length arcs-front ∙ length-arc n (node n stated)
 
     -- the first line, and the lines of the pairs
-    pub network-adds : (identifiers : List ℕ) {b₀ b₁ b₂ : List ℕ} {a₁ a₂ : ℕ} → Adds (acceptedLine n rounds) b₀ 0 b₁ a₁
-        → Adds (pairLines (n * n) n identifiers (take (n * n) first′) network) b₁ a₁ b₂ a₂
-        → Adds (refinedReport n identifiers stated (accepted network rounds)) b₀ 0 b₂ a₂
-    network-adds identifiers p q = adds-adds p (rw (← arcs-front) q)
+    pub network-adds : (identifiers marks : List ℕ) {b₀ b₁ b₂ : List ℕ} {a₁ a₂ : ℕ} → Adds (acceptedLine n rounds) b₀ 0 b₁ a₁
+        → Adds (pairLines (n * n) n identifiers (take (n * n) first′) network marks) b₁ a₁ b₂ a₂
+        → Adds (refinedReport n identifiers stated marks (accepted network rounds)) b₀ 0 b₂ a₂
+    network-adds identifiers marks p q = adds-adds p (rw (← arcs-front) q)
 
 -- its report
-pub accepted-reports : {n : ℕ} {identifiers stated : List ℕ} {rounds : ℕ} {network b₀ b₁ : List ℕ} {next : ℕ} → Call n identifiers stated
-    → HandedBack n stated rounds network → Adds (refinedReport n identifiers stated (accepted network rounds)) b₀ 0 b₁ next
-    → Reports (refinedReport n identifiers stated (refine n stated)) b₀ b₁ next
-accepted-reports {n} {identifiers} {stated} {rounds} {network} c w adds =
-    let same = ap (refinedReport n identifiers stated) (w .ending) in
+pub accepted-reports : {n : ℕ} {identifiers stated marks : List ℕ} {rounds : ℕ} {network b₀ b₁ : List ℕ} {next : ℕ}
+    → Call n identifiers stated marks → HandedBack n stated rounds network
+    → Adds (refinedReport n identifiers stated marks (accepted network rounds)) b₀ 0 b₁ next
+    → Reports (refinedReport n identifiers stated marks (refine n stated)) b₀ b₁ next
+accepted-reports {n} {identifiers} {stated} {marks} {rounds} {network} c w adds =
+    let same = ap (refinedReport n identifiers stated marks) (w .ending) in
     record {
       adds = renamed (sym same) adds;
       short = rw same
-          (accepted-report-short n identifiers (prepared n stated) network
-          (record { identifiers-small = c .identifiers-small; sets-small = small-sets w }) rounds (c .stated-so .few));
+          (accepted-report-short n identifiers (prepared n stated) network marks
+          (record { identifiers-small = c .identifiers-small; sets-small = small-sets w; marks-small = c .marks-small }) rounds (c .stated-so .few));
     }

@@ -45,12 +45,12 @@ module _ {n : ℕ} {stated first second first′ second′ : List ℕ} {verdict 
       }
 
   -- the line of any other verdict is the report
-  pub refused-report : (identifiers : List ℕ) → (answerOf verdict .number ≡ 0 → ⊥)
-      → answerLine identifiers (answerOf verdict) ≡ refinedReport n identifiers stated (refine n stated)
-  refused-report identifiers z = of-ending (refine n stated) (call .answer ∙ ap answered (refined-in-range range))
+  pub refused-report : (identifiers marks : List ℕ) → (answerOf verdict .number ≡ 0 → ⊥)
+      → answerLine identifiers (answerOf verdict) ≡ refinedReport n identifiers stated marks (refine n stated)
+  refused-report identifiers marks z = of-ending (refine n stated) (call .answer ∙ ap answered (refined-in-range range))
     where
       of-ending : (ending : Ending (List ℕ)) → answerOf verdict ≡ answered ending
-          → answerLine identifiers (answerOf verdict) ≡ refinedReport n identifiers stated ending
+          → answerLine identifiers (answerOf verdict) ≡ refinedReport n identifiers stated marks ending
       of-ending (accepted network count) q = absurd (z (ap (λ (x : Answer). x .number) q))
       of-ending (refused numbers) q = ap (answerLine identifiers) q
 

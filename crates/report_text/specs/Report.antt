@@ -14,6 +14,7 @@ use Rattle.refinement.specs.Prepare.{prepared}
 use Rattle.refinement.specs.Refine.{refine}
 use Rattle.filing.specs.Said.{Said, regions}
 use Rattle.filing.specs.Stated.{cellsOf}
+use Rattle.filing.specs.Marks.{marksOf}
 use Rattle.scene.specs.Reading.{readScene}
 use Rattle.scene.specs.Reads.{startingCell}
 use Rattle.text.specs.Decimal.{decimal}
@@ -32,32 +33,32 @@ abbrev pub refusalLine : ℕ → ℕ → ℕ → ℕ → List ℕ
 refusalLine number first second third =
     line (refusedWord ∷ decimal number ∷ decimal first ∷ decimal second ∷ decimal third ∷ [])
 
--- the line of a pair: both identifiers, the refined set and the class by what the arc rule left
-abbrev pub setsLine : ℕ → ℕ → ℕ → ℕ → List ℕ
-setsLine first second arc refined =
-    line (decimal first ∷ decimal second ∷ decimal refined ∷ (classOf (size arc) (size refined) ∷ []) ∷ [])
+-- the line of a pair: both identifiers, the refined set, the class by what the arc rule left, and the marks there and back
+abbrev pub setsLine : ℕ → ℕ → ℕ → ℕ → ℕ → ℕ → List ℕ
+setsLine first second arc refined there back =
+    line (decimal first ∷ decimal second ∷ decimal refined ∷ (classOf (size arc) (size refined) ∷ []) ∷ decimal there ∷ decimal back ∷ [])
 
--- ---- pairs, with the matrix after the arc rule and the network
+-- ---- pairs, with the matrix after the arc rule, the network and the marks
 
 -- the letter of the regions at places i and j
 abbrev pub letter : ℕ → List ℕ → List ℕ → ℕ → ℕ → ℕ
 letter n arcs network i j = classOf (size (cell n arcs i j)) (size (cell n network i j))
 
 -- their line
-abbrev pub pairLine : ℕ → List ℕ → List ℕ → List ℕ → ℕ → ℕ → List ℕ
-pairLine n identifiers arcs network i j =
-    setsLine (getD identifiers i 0) (getD identifiers j 0) (cell n arcs i j) (cell n network i j)
+abbrev pub pairLine : ℕ → List ℕ → List ℕ → List ℕ → List ℕ → ℕ → ℕ → List ℕ
+pairLine n identifiers arcs network marks i j =
+    setsLine (getD identifiers i 0) (getD identifiers j 0) (cell n arcs i j) (cell n network i j) (cell n marks i j) (cell n marks j i)
 
 -- the line of the cell at a place, where it is one of a pair i < j
-abbrev pub cellLine : ℕ → List ℕ → List ℕ → List ℕ → ℕ → List ℕ
-cellLine n identifiers arcs network p =
-    cond (ltb (row n p) (column n p)) (pairLine n identifiers arcs network (row n p) (column n p)) []
+abbrev pub cellLine : ℕ → List ℕ → List ℕ → List ℕ → List ℕ → ℕ → List ℕ
+cellLine n identifiers arcs network marks p =
+    cond (ltb (row n p) (column n p)) (pairLine n identifiers arcs network marks (row n p) (column n p)) []
 
 -- the lines of the pairs i < j among the first `count` cells in row order
-unfoldable pub pairLines : ℕ → ℕ → List ℕ → List ℕ → List ℕ → List ℕ
-pairLines zero n identifiers arcs network = []
-pairLines (suc count) n identifiers arcs network =
-    pairLines count n identifiers arcs network ++ cellLine n identifiers arcs network count
+unfoldable pub pairLines : ℕ → ℕ → List ℕ → List ℕ → List ℕ → List ℕ → List ℕ
+pairLines zero n identifiers arcs network marks = []
+pairLines (suc count) n identifiers arcs network marks =
+    pairLines count n identifiers arcs network marks ++ cellLine n identifiers arcs network marks count
 
 -- ---- reports
 
@@ -76,17 +77,21 @@ answerLine identifiers a =
     (nameOf identifiers (a .number) 3 (a .third))
 
 -- the report of a refined matrix; the letters go by the stated sets after the arc rule, which takes both directions together
-abbrev pub refinedReport : ℕ → List ℕ → List ℕ → Ending (List ℕ) → List ℕ
-refinedReport n identifiers stated (accepted network count) =
-    acceptedLine n count ++ pairLines (n * n) n identifiers (prepared n stated) network
-refinedReport n identifiers stated (refused numbers) = answerLine identifiers numbers
+abbrev pub refinedReport : ℕ → List ℕ → List ℕ → List ℕ → Ending (List ℕ) → List ℕ
+refinedReport n identifiers stated marks (accepted network count) =
+    acceptedLine n count ++ pairLines (n * n) n identifiers (prepared n stated) network marks
+refinedReport n identifiers stated marks (refused numbers) = answerLine identifiers numbers
 
--- the report of a reading; a refused one names an offset
-abbrev pub readReport : Ending Said → List ℕ
-readReport (accepted said count) =
+-- the report of what was said, with marks
+abbrev pub saidReport : Said → List ℕ → List ℕ
+saidReport said marks =
     let n : ℕ = regions said in
     let stated : List ℕ = cellsOf startingCell said in
-    refinedReport n (said .identifiers) stated (refine n stated)
+    refinedReport n (said .identifiers) stated marks (refine n stated)
+
+-- the report of a reading, with its marks; a refused one names an offset
+abbrev pub readReport : Ending Said → List ℕ
+readReport (accepted said count) = saidReport said (marksOf startingCell said)
 readReport (refused numbers) = refusalLine (numbers .number) (numbers .first) 0 0
 
 -- the report of a scene

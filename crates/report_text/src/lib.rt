@@ -49,24 +49,31 @@ fn put_network(
     n: usize,
     identifiers: &[u32],
     stated: &[u8],
+    marks: &[u16],
     network: &[u8],
     rounds: usize,
 ) -> usize
-    requires { ⌜ Square n (now stated) × (refine n (now stated) ≡ accepted (now network) rounds) ⌝ }
-    ensures { λ r. ⌜ Adds (refinedReport n (now (identifiers .entry)) (now (stated .entry)) (accepted (now (network .entry)) rounds)) (now (buffer .entry)) 0 (now (buffer .exit)) r ⌝ }
+    requires { ⌜ Square n (now stated) × Square n (now marks) × (refine n (now stated) ≡ accepted (now network) rounds) ⌝ }
+    ensures { λ r. ⌜ Adds (refinedReport n (now (identifiers .entry)) (now (stated .entry)) (now (marks .entry)) (accepted (now (network .entry)) rounds)) (now (buffer .entry)) 0 (now (buffer .exit)) r ⌝ }
 {
     let mut first = [0u8; LENT_CELLS];
     let mut second = [0u8; LENT_CELLS];
     network::prepare(n, stated, &mut first, &mut second);
     let arcs = &first[..n * n];
     let next = put_accepted(buffer, n, rounds);
-    put_pairs(buffer, next, n, identifiers, arcs, network)
+    put_pairs(buffer, next, n, identifiers, arcs, network, marks)
 }
 
-// The report of n regions with the cells that were stated of them.
-fn put_refined(buffer: &mut [u8], n: usize, identifiers: &[u32], stated: &[u8]) -> usize
-    requires { ⌜ Square n (now stated) ⌝ }
-    ensures { λ r. ⌜ Reports (refinedReport n (now (identifiers .entry)) (now (stated .entry)) (refine n (now (stated .entry)))) (now (buffer .entry)) (now (buffer .exit)) r ⌝ }
+// The report of n regions with the cells that were stated of them and their marks.
+fn put_refined(
+    buffer: &mut [u8],
+    n: usize,
+    identifiers: &[u32],
+    stated: &[u8],
+    marks: &[u16],
+) -> usize
+    requires { ⌜ Square n (now stated) × Square n (now marks) ⌝ }
+    ensures { λ r. ⌜ Reports (refinedReport n (now (identifiers .entry)) (now (stated .entry)) (now (marks .entry)) (refine n (now (stated .entry)))) (now (buffer .entry)) (now (buffer .exit)) r ⌝ }
 {
     let mut first = [0u8; LENT_CELLS];
     let mut second = [0u8; LENT_CELLS];
@@ -78,7 +85,7 @@ fn put_refined(buffer: &mut [u8], n: usize, identifiers: &[u32], stated: &[u8]) 
             area: _,
         } => {
             let network = network::network(&first, &second, verdict);
-            put_network(buffer, n, identifiers, stated, network, rounds)
+            put_network(buffer, n, identifiers, stated, marks, network, rounds)
         }
         Verdict::Refused(contradiction, _) => put_contradiction(buffer, identifiers, contradiction),
         Verdict::Unfinished { rounds: _, area: _ } => put_refusal(buffer, 24, 0, 0, 0),
@@ -94,8 +101,15 @@ pub fn report(scene: &[u8], buffer: &mut [u8; 131072]) -> usize
 {
     let mut identifiers = [0u32; LENT_IDENTIFIERS];
     let mut stated = [0u8; LENT_CELLS];
-    match scene::read(scene, &mut identifiers, &mut stated) {
-        Reading::Accepted(n) => put_refined(buffer, n, &identifiers, &stated[..n * n]),
+    let mut marks = [0u16; LENT_CELLS];
+    match scene::read(scene, &mut identifiers, &mut stated, &mut marks) {
+        Reading::Accepted(n) => put_refined(
+            buffer,
+            n,
+            &identifiers,
+            &stated[..n * n],
+            &marks[..n * n],
+        ),
         Reading::WrongLength => put_refusal(buffer, 2, 0, 0, 0),
         Reading::TooLong => put_refusal(buffer, 3, MOST_BYTES, 0, 0),
         Reading::Refused(refusal, offset) => {

@@ -5,9 +5,10 @@ use region::Identifier;
 use region::Place;
 use region::identifier_at;
 use relation::RelationSet;
-ghost use mathlib.Core.List.{_∷_};
+ghost use mathlib.Core.List.{[], _∷_};
 ghost use Prim.Native.Nat.{_*_, _<_};
 ghost use Rattle.text.specs.Decimal.{decimal};
+ghost use Rattle.text.specs.Line.{line};
 ghost use Rattle.text.specs.Put.{Adds};
 ghost use Rattle.network.specs.Numbers.{answerOf};
 ghost use Rattle.network.specs.declared.Verdict.the-variants.{Refused};
@@ -83,7 +84,16 @@ pub(crate) fn put_contradiction(
     }
 }
 
-// The line of a pair of regions: their identifiers, the refined set and the class.
+// The two marks of a pair, there and back, and the end of its line.
+fn put_marks(buffer: &mut [u8], at: usize, there: u16, back: u16) -> usize
+    ensures { λ r. ⌜ Adds (32 ∷ line (decimal there ∷ decimal back ∷ [])) (now (buffer .entry)) at (now (buffer .exit)) r ⌝ }
+{
+    let next = put_field(buffer, at, there as usize);
+    let last = put_field(buffer, next, back as usize);
+    text::put_word(buffer, last, b"\n")
+}
+
+// The line of a pair of regions: their identifiers, the refined set, the class and the marks there and back.
 fn put_pair(
     buffer: &mut [u8],
     at: usize,
@@ -91,14 +101,17 @@ fn put_pair(
     second: Identifier,
     arc: RelationSet,
     refined: RelationSet,
+    there: u16,
+    back: u16,
 ) -> usize
-    ensures { λ r. ⌜ Adds (setsLine (first .0) (second .0) (arc .0) (refined .0)) (now (buffer .entry)) at (now (buffer .exit)) r ⌝ }
+    ensures { λ r. ⌜ Adds (setsLine (first .0) (second .0) (arc .0) (refined .0) there back) (now (buffer .entry)) at (now (buffer .exit)) r ⌝ }
 {
     let next = text::put_decimal(buffer, at, first.0 as usize);
     let next = put_field(buffer, next, second.0 as usize);
     let next = put_field(buffer, next, refined.0 as usize);
-    let end = [b' ', class_of(arc, refined), b'\n'];
-    text::put_word(buffer, next, &end)
+    let class = [b' ', class_of(arc, refined)];
+    let next = text::put_word(buffer, next, &class);
+    put_marks(buffer, next, there, back)
 }
 
 // The line of the cell at a place of the matrix, where its row is above its column.
@@ -110,15 +123,17 @@ fn put_cell(
     identifiers: &[u32],
     arcs: &[u8],
     network: &[u8],
+    marks: &[u16],
 ) -> usize
-    requires { ⌜ Paired n (now arcs) (now network) × (p < n * n) ⌝ }
-    ensures { λ r. ⌜ Adds (cellLine n (now (identifiers .entry)) (now (arcs .entry)) (now (network .entry)) p) (now (buffer .entry)) at (now (buffer .exit)) r ⌝ }
+    requires { ⌜ Paired n (now arcs) (now network) (now marks) × (p < n * n) ⌝ }
+    ensures { λ r. ⌜ Adds (cellLine n (now (identifiers .entry)) (now (arcs .entry)) (now (network .entry)) (now (marks .entry)) p) (now (buffer .entry)) at (now (buffer .exit)) r ⌝ }
 {
     let i = p / n;
     let j = p % n;
     if i < j {
         let first = identifier_at(identifiers, Place(i));
         let second = identifier_at(identifiers, Place(j));
+        let back = marks[j * n + i];
         return put_pair(
             buffer,
             at,
@@ -126,12 +141,14 @@ fn put_cell(
             second,
             RelationSet(arcs[p]),
             RelationSet(network[p]),
+            marks[p],
+            back,
         );
     }
     at
 }
 
-// The lines of all pairs, in row order, by the matrix after the arc rule and the network.
+// The lines of all pairs, in row order, by the matrix after the arc rule, the network and the marks.
 pub(crate) fn put_pairs(
     buffer: &mut [u8],
     at: usize,
@@ -139,15 +156,16 @@ pub(crate) fn put_pairs(
     identifiers: &[u32],
     arcs: &[u8],
     network: &[u8],
+    marks: &[u16],
 ) -> usize
-    requires { ⌜ Paired n (now arcs) (now network) ⌝ }
-    ensures { λ r. ⌜ Adds (pairLines (n * n) n (now (identifiers .entry)) (now (arcs .entry)) (now (network .entry))) (now (buffer .entry)) at (now (buffer .exit)) r ⌝ }
+    requires { ⌜ Paired n (now arcs) (now network) (now marks) ⌝ }
+    ensures { λ r. ⌜ Adds (pairLines (n * n) n (now (identifiers .entry)) (now (arcs .entry)) (now (network .entry)) (now (marks .entry))) (now (buffer .entry)) at (now (buffer .exit)) r ⌝ }
 {
     let size = n * n;
     let mut next = at;
     let mut p: usize = 0;
     while p < size {
-        next = put_cell(buffer, next, n, p, identifiers, arcs, network);
+        next = put_cell(buffer, next, n, p, identifiers, arcs, network, marks);
         p += 1;
     }
     next

@@ -11,6 +11,7 @@ use Rattle.matrix.specs.Cells.{grid}
 use Rattle.matrix.proofs.CellLaws.{length-grid}
 use Rattle.filing.specs.Said.{Said, regions}
 use Rattle.filing.specs.Stated.{statedCell, cellsOf}
+use Rattle.filing.specs.Marks.{markOf, marksOf}
 use Rattle.filing.specs.Areas.{Areas, Lent, lentIdentifiers, lentCells, padded, filled, emptied}
 use Rattle.filing.proofs.Padded.{padded-front}
 use Rattle.scene.specs.Format.{mostBytes}
@@ -119,7 +120,7 @@ right-lengths scene lent e =
 
 -- ---- what each answer leaves
 
--- an acceptance: the identifiers by place and the cells in rows of n, with 0 behind them
+-- an acceptance: the identifiers by place, the cells and their marks in rows of n, with 0 behind them
 pub record AcceptedLeaves (scene : List ℕ) (before after : Areas) (n : ℕ) : Type 0 where
   pub said : Said
   pub ending : readOf scene before ≡ acceptedSaid said
@@ -131,8 +132,10 @@ pub record AcceptedLeaves (scene : List ℕ) (before after : Areas) (n : ℕ) : 
   pub areas-are : after ≡ filled startingCell said before
   pub identifiers-are : after .identifiers ≡ padded lentIdentifiers (said .identifiers)
   pub cells-are : after .cells ≡ padded lentCells (grid n (statedCell startingCell (said .statements)))
+  pub marks-are : after .marks ≡ padded lentCells (grid n (markOf startingCell (said .statements)))
   pub identifiers-front : take n (after .identifiers) ≡ said .identifiers
   pub cells-front : take (n * n) (after .cells) ≡ grid n (statedCell startingCell (said .statements))
+  pub marks-front : take (n * n) (after .marks) ≡ grid n (markOf startingCell (said .statements))
 
 -- a refusal of the scene: areas all 0
 pub record RefusedLeaves (scene : List ℕ) (before after : Areas) (number offset : ℕ) : Type 0 where
@@ -163,6 +166,9 @@ module _ {scene : List ℕ} {before after : Areas} where
       let sets : after .cells ≡ padded lentCells cells =
       ap (λ (a : Areas). a .cells) are ∙ ap (λ (k : ℕ). padded k (cellsOf startingCell said)) (lent .cells-long)
       ∙ ap (λ (k : ℕ). padded lentCells (grid k (statedCell startingCell (said .statements)))) (t .counted) in
+      let marks : after .marks ≡ padded lentCells (grid n (markOf startingCell (said .statements))) =
+      ap (λ (a : Areas). a .marks) are ∙ ap (λ (k : ℕ). padded k (marksOf startingCell said)) (lent .marks-long)
+      ∙ ap (λ (k : ℕ). padded lentCells (grid k (markOf startingCell (said .statements)))) (t .counted) in
       record {
         said = said;
         ending = t .is;
@@ -174,8 +180,11 @@ module _ {scene : List ℕ} {before after : Areas} where
         areas-are = are;
         identifiers-are = names;
         cells-are = sets;
+        marks-are = marks;
         identifiers-front = padded-front lentIdentifiers (said .identifiers) (t .counted) names;
         cells-front = padded-front lentCells cells (length-grid n (statedCell startingCell (said .statements))) sets;
+        marks-front = padded-front lentCells (grid n (markOf startingCell (said .statements)))
+            (length-grid n (markOf startingCell (said .statements))) marks;
       }
 
   pub refused-leaves : {refusal : Refusal} {offset : ℕ} → Reads scene before after (Refused refusal offset)

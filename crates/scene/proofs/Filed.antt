@@ -1,8 +1,8 @@
 -- Every statement of an accepted scene is filed under the regions that it names, and none is lost: cell (i, j) is the universal set
 -- intersected with the sets of exactly the statements from identifier i to identifier j.
-use mathlib.Core.Path.{_≡_, refl, sym, ap, _∙_}
+use mathlib.Core.Path.{_≡_, refl, sym, ap, _∙_, subst}
 use mathlib.Core.Bool.{Bool, true, false, cond, _&&_}
-use mathlib.Core.List.{List, [], _∷_}
+use mathlib.Core.List.{List, [], _∷_, _++_, append-assoc, append-nil}
 use Prim.Native.Nat.{ℕ, zero, suc, _+_, _≤_, _<_}
 use native.Mathlib.Omega.{arith}
 use lib.Dec.{eqb}
@@ -13,12 +13,12 @@ use Rattle.region.specs.declared.Place.{Place}
 use Rattle.region.specs.declared.Found.the-variants.{At}
 use Rattle.lists.proofs.Splits.{split-eq, split-lt}
 use Rattle.filing.proofs.PlaceLaws.{place-found}
-use Rattle.filing.proofs.StatedLaws.{stated-none, stated-more, stated-within}
-use Rattle.relation.specs.Sets.{Within, universal, intersect}
-use Rattle.relation.proofs.Within.{intersect-comm, intersect-assoc, within-refl, within-trans, within-right}
+use Rattle.filing.proofs.StatedLaws.{stated-none, stated-more}
+use Rattle.relation.specs.Sets.{universal, intersect}
+use Rattle.relation.proofs.Within.{intersect-comm, intersect-assoc}
 use Rattle.lists.specs.BigEndian.{numberAt}
 use Rattle.scene.specs.Format.{regionKind, statementKind, endKind, lengthOf}
-use Rattle.filing.specs.Said.{Said, regions, silent, declared, statement, stated}
+use Rattle.filing.specs.Said.{Statement, Said, regions, silent, declared, statement, stated}
 use Rattle.filing.specs.Stated.{statedCell}
 use Rattle.scene.specs.Record.{Judged, declares, states, ends, fails, recordAt}
 use Rattle.scene.specs.Reading.{acceptedSaid, follows, readFrom, readScene}
@@ -28,17 +28,6 @@ use Rattle.scene.specs.Spoken.{Spoken, spokenAt, spokenFrom, spoken, amo
 use Rattle.scene.proofs.Reasons.{Looks, States, declares-why, states-why, ends-why}
 use Rattle.scene.proofs.Endings.{accepted-records}
 use Rattle.scene.proofs.Different.{accepted-different}
-
--- ---- statements narrow the universal set
-
-cond-within : (b : Bool) (s x : ℕ) → Within x universal → Within (cond b (intersect s x) x) universal
-cond-within true s x w = within-trans (within-right s x) w
-cond-within false s x w = w
-
-among-within : (l : List Spoken) (a b : ℕ) → Within (among l a b) universal
-unfolding among
-among-within [] a b = within-refl universal
-among-within (s ∷ rest) a b = cond-within (eqb (s .from) a && eqb (s .to) b) (s .set) (among rest a b) (among-within rest a b)
 
 -- ---- places and identifiers
 
@@ -84,12 +73,7 @@ same-test l p i name d hp hi e =
     lt-of : (p i : ℕ) → i ≤ p → (p ≡ i → ⊥) → i < p
     lt-of p i h q = split-lt i p (λ l. l) (λ l. absurd (q (omega arith)))
 
--- ---- the cells
-
--- a set is intersected in before or after the rest
-moved : (b : Bool) (x s r : ℕ) → intersect (cond b (intersect x s) x) r ≡ intersect x (cond b (intersect s r) r)
-moved true x s r = intersect-assoc x s r
-moved false x s r = refl
+-- ---- the statements by place are those of the file by identifier
 
 -- the statements from a record on, by its kind
 module _ (scene : List ℕ) (more at : ℕ) where
@@ -106,82 +90,139 @@ module _ (scene : List ℕ) (more at : ℕ) where
   unfolding spokenFrom
   spoken-end k = rw k
 
-among-more : (s : Spoken) (rest : List Spoken) (a b set : ℕ) (from to : Bool) → from ≡ eqb (s .from) a → to ≡ eqb (s .to) b → s .set ≡ set
-    → cond (from && to) (intersect set (among rest a b)) (among rest a b) ≡ among (s ∷ rest) a b
-unfolding among
-among-more s rest a b set from to f t e = rw (f, t, ← e)
+-- a statement by the identifiers of its places
+abbrev pub spokenBy : List ℕ → Statement → Spoken
+spokenBy identifiers s = record { from = getD identifiers (s .from) 0; to = getD identifiers (s .to) 0; set = s .set }
 
-module _ (scene : List ℕ) (final : Said) (different : Different (final .identifiers)) (i j : ℕ) (hi : i < regions final)
-    (hj : j < regions final) where
-  -- the test of a statement by place is its test by identifier
-  test-is : (said : Said) (a : Place) (from k : ℕ) → Extends said final → Looks scene said from (At a) → k < regions final
-      → eqb (a .0) k ≡ eqb (numberAt scene from) (getD (final .identifiers) k 0)
-  test-is said a from k x f hk =
-      let h = place-found said (identifier (numberAt scene from)) a (f .finds) in
-      same-test (final .identifiers) (a .0) k (numberAt scene from) different (omega (arith, x .long, h .inside)) hk
-      (x .same (a .0) (h .inside) ∙ h .entry)
+-- statements in the order of the file, the earliest first
+unfoldable pub inFile : List ℕ → List Statement → List Spoken
+inFile identifiers [] = []
+inFile identifiers (s ∷ earlier) = inFile identifiers earlier ++ (spokenBy identifiers s ∷ [])
 
-  -- what is still to be read narrows the cell by just the statements between the two identifiers
-  abbrev Filed : ℕ → ℕ → Said → Type 0
-  Filed more at said =
-      statedCell startingCell (final .statements) i j
-      ≡ intersect (statedCell startingCell (said .statements) i j)
-      (among (spokenFrom more scene at) (getD (final .identifiers) i 0) (getD (final .identifiers) j 0))
+-- the places that they name are those of regions
+abbrev pub Inside : ℕ → List Statement → Type 0
+Inside n [] = Unit
+Inside n (s ∷ earlier) = (s .from < n) × (s .to < n) × Inside n earlier
+
+module _ (scene : List ℕ) (final : Said) where
+  abbrev all : List Statement → List Spoken
+  all = inFile (final .identifiers)
+
+  -- what is still to be read is what comes behind what was said
+  record Known (more at : ℕ) (said : Said) : Type 0 where
+    file : all (final .statements) ≡ all (said .statements) ++ spokenFrom more scene at
+    inside : Inside (regions final) (said .statements) → Inside (regions final) (final .statements)
+
+  -- the record of a statement names the identifiers of its places
+  named : (said : Said) (at : ℕ) (a b : Place) (set : ℕ) → States scene said at a b set → Extends said final
+      → spokenBy (final .identifiers) (statement a b set) ≡ spokenAt scene at
+  named said at a b set d x =
+      let first = place-found said (identifier (numberAt scene (at + 1))) a (d .from-is .finds) in
+      let second = place-found said (identifier (numberAt scene (at + 5))) b (d .to-is .finds) in
+      rw (x .same (a .0) (first .inside) ∙ first .entry, x .same (b .0) (second .inside) ∙ second .entry, d .set-is)
 
   module _ (more at : ℕ) (said : Said) where
-    filed-region : (name : ℕ) → getD scene at 0 ≡ regionKind
-        → Filed more (at + lengthOf regionKind) (declared said name) → Filed (suc more) at said
-    filed-region name k f = rw (spoken-region scene more at k) f
+    known-region : (name : ℕ) → getD scene at 0 ≡ regionKind
+        → Known more (at + lengthOf regionKind) (declared said name) → Known (suc more) at said
+    known-region name k f = record { file = rw (spoken-region scene more at k) (f .file); inside = f .inside }
 
-    filed-statement : (a b : Place) (set : ℕ) → States scene said at a b set → Extends said final
-        → Filed more (at + lengthOf statementKind) (stated said a b set) → Filed (suc more) at said
-    filed-statement a b set d x f =
-        let cell : ℕ = statedCell startingCell (said .statements) i j in
+    known-statement : (a b : Place) (set : ℕ) → States scene said at a b set → Extends said final
+        → Known more (at + lengthOf statementKind) (stated said a b set) → Known (suc more) at said
+    unfolding inFile
+    known-statement a b set d x f =
         let rest : List Spoken = spokenFrom more scene (at + lengthOf statementKind) in
-        let first : ℕ = getD (final .identifiers) i 0 in
-        let second : ℕ = getD (final .identifiers) j 0 in
-        f
-        ∙ ap (λ (c : ℕ). intersect c (among rest first second))
-        (stated-more startingCell (statement a b set) (said .statements) i j)
-        ∙ moved (eqb (a .0) i && eqb (b .0) j) cell set (among rest first second)
-        ∙ ap (λ (c : ℕ). intersect cell c)
-        (among-more (spokenAt scene at) rest first second set (eqb (a .0) i) (eqb (b .0) j) (test-is said a (at + 1) i x (d .from-is) hi)
-        (test-is said b (at + 5) j x (d .to-is) hj)
-        (d .set-is)
-        ∙ ap (λ (l : List Spoken). among l first second) (sym (spoken-statement scene more at (d .whole .kind-is))))
+        let first = place-found said (identifier (numberAt scene (at + 1))) a (d .from-is .finds) in
+        let second = place-found said (identifier (numberAt scene (at + 5))) b (d .to-is .finds) in
+        record {
+          file = f .file
+              ∙ append-assoc (all (said .statements)) (spokenBy (final .identifiers) (statement a b set) ∷ []) rest
+              ∙ ap (λ (s : Spoken). all (said .statements) ++ (s ∷ rest)) (named said at a b set d x)
+              ∙ ap (λ (l : List Spoken). all (said .statements) ++ l) (sym (spoken-statement scene more at (d .whole .kind-is)));
+          inside = λ before. f .inside (omega (arith, x .long, first .inside), omega (arith, x .long, second .inside), before);
+        }
 
-    filed-end : getD scene at 0 ≡ endKind → said ≡ final → Filed (suc more) at said
-    unfolding among
-    filed-end k e = rw (spoken-end scene more at k, e) (sym (stated-within startingCell (final .statements) i j .meets))
+    known-end : getD scene at 0 ≡ endKind → said ≡ final → Known (suc more) at said
+    known-end k e = record {
+      file = rw (spoken-end scene more at k, e) (sym (append-nil (all (final .statements))));
+      inside = λ before. subst (λ (x : Said). Inside (regions final) (x .statements)) e before;
+    }
 
-  filed-from : (more at : ℕ) (said : Said) → readFrom more scene at said ≡ acceptedSaid final → Filed more at said
+  known-from : (more at : ℕ) (said : Said) → readFrom more scene at said ≡ acceptedSaid final → Known more at said
   unfolding readFrom
-  filed-from zero at said e = let z : _≡_ {A = ℕ} 0 1 = cc in absurd (omega arith)
-  filed-from (suc more) at said e =
-      by-record (recordAt scene said at) refl e (λ next then q. filed-from more next then q)
+  known-from zero at said e = let z : _≡_ {A = ℕ} 0 1 = cc in absurd (omega arith)
+  known-from (suc more) at said e =
+      by-record (recordAt scene said at) refl e (λ next then q. known-from more next then q)
     where
       by-record : (k : Judged) → recordAt scene said at ≡ k → follows (readFrom more scene) at said k ≡ acceptedSaid final
-          → ((next : ℕ) (then : Said) → readFrom more scene next then ≡ acceptedSaid final → Filed more next then) → Filed (suc more) at said
+          → ((next : ℕ) (then : Said) → readFrom more scene next then ≡ acceptedSaid final → Known more next then) → Known (suc more) at said
       by-record (declares name) r e later =
-          filed-region more at said name (declares-why scene said at r .region .whole .kind-is)
+          known-region more at said name (declares-why scene said at r .region .whole .kind-is)
           (later (at + lengthOf regionKind) (declared said name) e)
       by-record (states a b set) r e later =
           let x = extends-from scene more (at + lengthOf statementKind) (stated said a b set) final e in
-          filed-statement more at said a b set (states-why scene said at r) (record { long = x .long; same = x .same })
+          known-statement more at said a b set (states-why scene said at r) (record { long = x .long; same = x .same })
           (later (at + lengthOf statementKind) (stated said a b set) e)
       by-record ends r e later =
-          filed-end more at said (ends-why scene said at r .whole .kind-is) (let q : said ≡ final = cc in q)
+          known-end more at said (ends-why scene said at r .whole .kind-is) (let q : said ≡ final = cc in q)
       by-record (fails number offset) r e later = let z : _≡_ {A = ℕ} 0 1 = cc in absurd (omega arith)
+
+module _ (scene : List ℕ) {said : Said} (e : readScene scene ≡ acceptedSaid said) where
+  known : Known scene said (suc (length scene)) 0 silent
+  known = known-from scene said (suc (length scene)) 0 silent (accepted-records scene e)
+
+  pub in-file : spoken scene ≡ inFile (said .identifiers) (said .statements)
+  unfolding spoken inFile
+  in-file = sym (known .file)
+
+  pub all-inside : Inside (regions said) (said .statements)
+  all-inside = known .inside tt
+
+-- ---- the cells
+
+-- one statement more behind the others
+last-narrows : (x s : Bool) (a b r : ℕ) → cond x (intersect a (cond s (intersect r b) r)) (cond s (intersect r b) r)
+    ≡ cond s (intersect (cond x (intersect a r) r) b) (cond x (intersect a r) r)
+last-narrows true true a b r = sym (intersect-assoc a r b)
+last-narrows true false a b r = refl
+last-narrows false true a b r = refl
+last-narrows false false a b r = refl
+
+alone-narrows : (s : Bool) (b : ℕ) → cond s (intersect b universal) universal ≡ cond s (intersect universal b) universal
+alone-narrows true b = intersect-comm b universal
+alone-narrows false b = refl
+
+among-last : (l : List Spoken) (s : Spoken) (a b : ℕ)
+    → among (l ++ (s ∷ [])) a b ≡ cond (eqb (s .from) a && eqb (s .to) b) (intersect (among l a b) (s .set)) (among l a b)
+unfolding among
+among-last [] s a b = alone-narrows (eqb (s .from) a && eqb (s .to) b) (s .set)
+among-last (x ∷ l) s a b =
+    let here : Bool = eqb (x .from) a && eqb (x .to) b in
+    ap (λ (r : ℕ). cond here (intersect (x .set) r) r) (among-last l s a b)
+    ∙ last-narrows here (eqb (s .from) a && eqb (s .to) b) (x .set) (s .set) (among l a b)
+
+-- a cell by place is the pair by identifier
+module _ (identifiers : List ℕ) (different : Different identifiers) (i j : ℕ) (hi : i < length identifiers) (hj : j < length identifiers) where
+  abbrev pub a : ℕ
+  a = getD identifiers i 0
+
+  abbrev pub b : ℕ
+  b = getD identifiers j 0
+
+  pub stated-among : (l : List Statement) → Inside (length identifiers) l → statedCell startingCell l i j ≡ among (inFile identifiers l) a b
+  unfolding inFile among
+  stated-among [] within = stated-none startingCell i j
+  stated-among (s ∷ l) within =
+      stated-more startingCell s l i j
+      ∙ rw (
+        stated-among l (within .2),
+        same-test identifiers (s .from) i (getD identifiers (s .from) 0) different (within .0) hi refl,
+        same-test identifiers (s .to) j (getD identifiers (s .to) 0) different (within .1) hj refl,
+      )
+      (sym (among-last (inFile identifiers l) (spokenBy identifiers s) a b))
 
 -- cell (i, j) of an accepted scene, by the statements as they stand in the file
 pub filed : (scene : List ℕ) {said : Said} → readScene scene ≡ acceptedSaid said → (i j : ℕ) → i < regions said → j < regions said
     → statedCell startingCell (said .statements) i j ≡ among (spoken scene) (getD (said .identifiers) i 0) (getD (said .identifiers) j 0)
-unfolding spoken
 filed scene {said} e i j hi hj =
-    let all : List Spoken = spokenFrom (suc (length scene)) scene 0 in
-    let first : ℕ = getD (said .identifiers) i 0 in
-    let second : ℕ = getD (said .identifiers) j 0 in
-    filed-from scene said (accepted-different scene e) i j hi hj (suc (length scene)) 0 silent (accepted-records scene e)
-    ∙ ap (λ (c : ℕ). intersect c (among all first second)) (stated-none startingCell i j)
-    ∙ intersect-comm universal (among all first second)
-    ∙ among-within all first second .meets
+    stated-among (said .identifiers) (accepted-different scene e) i j hi hj (said .statements) (all-inside scene e)
+    ∙ ap (λ (l : List Spoken). among l (getD (said .identifiers) i 0) (getD (said .identifiers) j 0)) (sym (in-file scene e))

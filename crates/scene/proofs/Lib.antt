@@ -8,6 +8,7 @@ pub mod Endings
 -- what an accepted scene is like, in the author's words
 pub mod Different
 pub mod Filed
+pub mod Marked
 pub mod Small
 -- what a refused one is like
 pub mod Behind

@@ -44,17 +44,17 @@ too-long {scene} lent h e = reads-to (refusedAt 3 mostBytes) (right-areas scene 
 records-decide : {scene : List ℕ} {areas : Areas} → Readable scene areas → readOf scene areas ≡ records scene
 records-decide {scene} lent = right-areas scene (lent .lent) ∙ within-limit scene (lent .scene-short)
 
-module _ {scene identifiers cells : List ℕ} {before : Areas} {at count : ℕ} (lent : Readable scene before)
-    (w : Going scene identifiers cells at count) {r : Record} (judged : judgedOf r ≡ recordAt scene (naming (take count identifiers)) at) where
-  pub ends-reads : {cells′ : List ℕ} → r ≡ recorded.End → cells′ ≡ packed count cells
-      → Reads scene before (holding identifiers cells′) (Accepted count)
+module _ {scene identifiers cells marks : List ℕ} {before : Areas} {at count statements : ℕ} (lent : Readable scene before)
+    (w : Going scene identifiers cells marks at count statements) {r : Record} (judged : judgedOf r ≡ recordAt scene (naming (take count identifiers)) at) where
+  pub ends-reads : {cells′ marks′ : List ℕ} → r ≡ recorded.End → cells′ ≡ packed count cells → marks′ ≡ packed count marks
+      → Reads scene before (holding identifiers cells′ marks′) (Accepted count)
   unfolding areasAfter
-  ends-reads d e =
+  ends-reads d e m =
       reads-to (acceptedSaid (w .said)) (records-decide lent ∙ going-ends w judged d) (rw (w .counted))
-      (rw (e, w .counted) (held-ends (w .held) before (lent .lent)))
+      (rw (e, m, w .counted) (held-ends (w .held) before (lent .lent)))
 
   pub refused-reads : {refusal : Refusal} {offset : ℕ} {after : Areas} → r ≡ recorded.Refused refusal offset
-      → after ≡ emptied (holding identifiers cells) → Reads scene before after (Refused refusal offset)
+      → after ≡ emptied (holding identifiers cells marks) → Reads scene before after (Refused refusal offset)
   unfolding areasAfter
   refused-reads {refusal} {offset} d e =
       reads-to (refusedAt (numberOf refusal) offset) (records-decide lent ∙ going-refused w judged d) refl

@@ -1,7 +1,7 @@
 -- A reading ends where a reached record ends or refuses it, and nowhere else.
 use mathlib.Core.Path.{_≡_, refl, sym, ap, _∙_}
 use mathlib.Core.List.{List, [], _∷_}
-use Prim.Native.Nat.{ℕ, zero, suc, _+_, _≤_, _<_}
+use Prim.Native.Nat.{ℕ, zero, suc, _+_, _*_, _≤_, _<_}
 use native.Mathlib.Omega.{arith}
 use lib.ListN.{length, length-append}
 use Rattle.matrix.specs.Square.{mostRegions}
@@ -24,6 +24,13 @@ module _ (scene : List ℕ) where
   reached-within start = omega arith
   reached-within (region {at} {said} name r e) = declares-why scene said at e .region .whole .fits
   reached-within (statement {at} {said} a b set r e) = states-why scene said at e .whole .fits
+
+  -- the records before an offset are so many bytes
+  pub reached-far : {at : ℕ} {said : Said} → Reached scene at said → at ≡ 5 * regions said + 10 * length (said .statements)
+  unfolding lengthOf
+  reached-far start = refl
+  reached-far (region {at} {said} name r e) = omega (arith, reached-far r, length-append (said .identifiers) (name ∷ []))
+  reached-far (statement {at} {said} a b set r e) = omega (arith, reached-far r)
 
   pub reached-few : {at : ℕ} {said : Said} → Reached scene at said → regions said ≤ mostRegions
   reached-few start = omega arith

@@ -78,12 +78,12 @@ reading-back (Refused refusal offset) = refused-back refusal offset
 pub answer-tells : (reading other : Reading) → answerOf reading ≡ answerOf other → reading ≡ other
 answer-tells reading other e = sym (reading-back reading) ∙ ap reading-of e ∙ reading-back other
 
-pub read-unique : (κs : Lfts 3) (a : Dens κs read-kinds.ps) (r r' : resT read-kinds.r κs .Denot)
-    (s s' : AtExit (endedOf 3 read-kinds.ps read-kinds.r) κs)
+pub read-unique : (κs : Lfts 4) (a : Dens κs read-kinds.ps) (r r' : resT read-kinds.r κs .Denot)
+    (s s' : AtExit (endedOf 4 read-kinds.ps read-kinds.r) κs)
     → read-reads.Post κs a r s → read-reads.Post κs a r' s'
-    → (r ≡ r') × (now (s .1 .0) ≡ now (s' .1 .0)) × (now (s .1 .1 .0) ≡ now (s' .1 .1 .0))
+    → (r ≡ r') × (now (s .1 .0) ≡ now (s' .1 .0)) × (now (s .1 .1 .0) ≡ now (s' .1 .1 .0)) × (now (s .1 .1 .1 .0) ≡ now (s' .1 .1 .1 .0))
 read-unique κs a r r' s s' p q =
-    let both = each-area (p .areas ∙ sym (q .areas)) in (answer-tells r r' (p .answer ∙ sym (q .answer)), both .0, both .1)
+    let each = each-area (p .areas ∙ sym (q .areas)) in (answer-tells r r' (p .answer ∙ sym (q .answer)), each .0, each .1, each .2)
 
 pub of-reading-unique : (κs : Lfts 0) (a : Dens κs telling-kinds.ps) (r r' : resT telling-kinds.r κs .Denot)
     (s s' : AtExit (endedOf 0 telling-kinds.ps telling-kinds.r) κs)

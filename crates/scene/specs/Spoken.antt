@@ -1,7 +1,8 @@
 -- The statements as they stand in the file, by identifiers, and what they make of a pair.
+use mathlib.Core.Path.{_≡_}
 use Prim.Native.Nat.{ℕ, zero, suc, _+_}
 use mathlib.Core.Bool.{cond, _&&_}
-use mathlib.Core.List.{List, [], _∷_}
+use mathlib.Core.List.{List, [], _∷_, _++_}
 use lib.Dec.{eqb}
 use lib.ListN.{length, getD}
 use Rattle.lists.specs.BigEndian.{numberAt}
@@ -36,3 +37,15 @@ spoken scene = spokenFrom (suc (length scene)) scene 0
 unfoldable pub among : List Spoken → ℕ → ℕ → ℕ
 among [] a b = universal
 among (s ∷ rest) a b = cond (eqb (s .from) a && eqb (s .to) b) (intersect (s .set) (among rest a b)) (among rest a b)
+
+-- the statement numbered m, from 1, is from one identifier to the other; it removed a relation, and none after it did
+pub record MarkedBy (statements : List Spoken) (a b m : ℕ) : Type 0 where
+  pub earlier : List Spoken
+  pub statement : Spoken
+  pub later : List Spoken
+  pub file : statements ≡ earlier ++ (statement ∷ later)
+  pub number : m ≡ suc (length earlier)
+  pub from-is : statement .from ≡ a
+  pub to-is : statement .to ≡ b
+  pub removes : among (earlier ++ (statement ∷ [])) a b ≡ among earlier a b → ⊥
+  pub last : among statements a b ≡ among (earlier ++ (statement ∷ [])) a b

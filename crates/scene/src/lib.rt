@@ -52,7 +52,7 @@ impl Refusal {
 pub enum Reading {
     // Read to its end, with so many regions.
     Accepted(usize),
-    // The lent identifiers are not 64, or the cells not 4,096.
+    // The lent identifiers are not 64, or the cells or their marks not 4,096.
     WrongLength,
     // The scene has more than 32,768 bytes.
     TooLong,
@@ -60,19 +60,20 @@ pub enum Reading {
     Refused(Refusal, usize),
 }
 
-// Reads a scene into 64 identifiers and 4,096 cells: the first n identifiers, and the cells in rows of n.
-pub fn read(scene: &[u8], identifiers: &mut [u32], cells: &mut [u8]) -> Reading
-    ensures { λ r. ⌜ Reads (now (scene .entry)) (holding (now (identifiers .entry)) (now (cells .entry)))
-        (holding (now (identifiers .exit)) (now (cells .exit))) r ⌝ }
+// Reads a scene into 64 identifiers and 4,096 cells with a mark for each: the first n identifiers, and cells and marks in rows of n. A
+// mark is the number of the last statement that removed a relation from the cell.
+pub fn read(scene: &[u8], identifiers: &mut [u32], cells: &mut [u8], marks: &mut [u16]) -> Reading
+    ensures { λ r. ⌜ Reads (now (scene .entry)) (holding (now (identifiers .entry)) (now (cells .entry)) (now (marks .entry)))
+        (holding (now (identifiers .exit)) (now (cells .exit)) (now (marks .exit))) r ⌝ }
 {
-    if !filing::are_lent(identifiers, cells) {
+    if !filing::are_lent(identifiers, cells, marks) {
         return Reading::WrongLength;
     }
     if MOST_BYTES < scene.len() {
-        filing::clear(identifiers, cells);
+        filing::clear(identifiers, cells, marks);
         return Reading::TooLong;
     }
-    read_records(scene, identifiers, cells)
+    read_records(scene, identifiers, cells, marks)
 }
 
 // The refused record's own bytes, as a part of the scene: its full length or what remains of it, one byte for an unknown kind,
@@ -82,7 +83,8 @@ pub fn refused_record(scene: &[u8]) -> &[u8]
 {
     let mut identifiers = [0u32; LENT_IDENTIFIERS];
     let mut cells = [0u8; LENT_CELLS];
-    let span = span_of(scene, read(scene, &mut identifiers, &mut cells));
+    let mut marks = [0u16; LENT_CELLS];
+    let span = span_of(scene, read(scene, &mut identifiers, &mut cells, &mut marks));
     let start = span.start;
     let end = span.end;
     &scene[start..end]

@@ -16,7 +16,7 @@ use Rattle.writer.proofs.ReadBack.{statementAt, statementsOf, statement
 
 module _ (n : ℕ) (cells : List ℕ) (bytes : (p : ℕ) → getD cells p 0 < 256) (i j : ℕ) (column-of : j < n) where
   -- another cell's statement changes nothing
-  not-narrowed : (p : ℕ) → (p ≡ i * n + j → ⊥) → statedCell startingCell (statementsOf (suc p) n cells) i j
+  pub not-narrowed : (p : ℕ) → (p ≡ i * n + j → ⊥) → statedCell startingCell (statementsOf (suc p) n cells) i j
       ≡ statedCell startingCell (statementsOf p n cells) i j
   not-narrowed p h =
       split-eq (getD cells p 0) universal
@@ -39,13 +39,13 @@ module _ (n : ℕ) (cells : List ℕ) (bytes : (p : ℕ) → getD cells p 0 < 25
       ∙ byte-within-universal (getD cells p 0) (bytes p) .meets))
 
   -- before its own it is 255
-  unstated : (p : ℕ) → p ≤ i * n + j → statedCell startingCell (statementsOf p n cells) i j ≡ universal
+  pub unstated : (p : ℕ) → p ≤ i * n + j → statedCell startingCell (statementsOf p n cells) i j ≡ universal
   unfolding statementsOf
   unstated zero l = stated-none startingCell i j
   unstated (suc p) l = not-narrowed p (λ e. omega arith) ∙ unstated p (omega arith)
 
   -- and after it what it was written from
-  stated : (p : ℕ) → i * n + j < p → statedCell startingCell (statementsOf p n cells) i j ≡ cell n cells i j
+  pub stated : (p : ℕ) → i * n + j < p → statedCell startingCell (statementsOf p n cells) i j ≡ cell n cells i j
   stated zero l = absurd (omega arith)
   stated (suc p) l =
       split-lt (i * n + j) p

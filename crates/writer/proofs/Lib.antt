@@ -10,6 +10,7 @@ pub mod Unique
 pub mod RecordsBack
 pub mod ReadBack
 pub mod CellsBack
+pub mod MarksBack
 -- and what was read is written in no more bytes
 pub mod NoLonger
 pub mod RoundTrip

@@ -17,26 +17,20 @@ use Rattle.filing.proofs.StatedLaws.{stated-none, stated-elsewhere}
 use Rattle.scene.specs.Reading.{acceptedSaid, readScene}
 use Rattle.scene.specs.Reads.{startingCell}
 use Rattle.scene.specs.Reached.{Reached, start, region, statement}
-use Rattle.scene.proofs.Reasons.{region-length, statement-length, ends-why}
+use Rattle.scene.proofs.Reasons.{ends-why}
+use Rattle.scene.proofs.Reached.{reached-far}
 use Rattle.scene.proofs.Endings.{accepted-records, finished}
-use Rattle.writer.specs.Scene.{sceneOf}
-use Rattle.writer.specs.Inner.{statedCount}
+use Rattle.writer.specs.Scene.{sceneOf, statedCount}
 use Rattle.writer.proofs.SceneLaws.{length-scene}
 
 -- ---- how long an accepted scene is
-
-reached-far : {scene : List ℕ} {at : ℕ} {said : Said} → Reached scene at said → at ≡ 5 * regions said + 10 * length (said .statements)
-reached-far start = refl
-reached-far (region {at} {said} name r e) =
-    omega (arith, reached-far r, length-append (said .identifiers) (name ∷ []), region-length)
-reached-far (statement a b set r e) = omega (arith, reached-far r, statement-length)
 
 -- five bytes for each region, ten for each statement, one for End
 pub accepted-length : (scene : List ℕ) {said : Said} → readScene scene ≡ acceptedSaid said
     → length scene ≡ 5 * regions said + 10 * length (said .statements) + 1
 accepted-length scene {said} e =
     let f = finished scene (accepted-records scene e) in
-    omega (arith, reached-far (f .reached), ends-why scene said (f .at) (f .end-there) .last)
+    omega (arith, reached-far scene (f .reached), ends-why scene said (f .at) (f .end-there) .last)
 
 -- ---- how many cells a list of statements narrows
 

@@ -19,8 +19,9 @@ use Rattle.matrix.specs.Cells.{row, column, grid}
 use Rattle.matrix.proofs.CellLaws.{place-lt, place-back, row-lt, column-lt, length-grid, at-place, no-empty, none-empty}
 use Rattle.filing.specs.Said.{Said, regions}
 use Rattle.filing.specs.Stated.{statedCell, cellsOf}
+use Rattle.filing.specs.Marks.{marksOf}
 use Rattle.filing.specs.Areas.{Areas, holding, Lent, lentIdentifiers, lentCells, padded, filled}
-use Rattle.filing.proofs.Padded.{padded-in}
+use Rattle.filing.proofs.Padded.{padded-in, padded-front}
 use Rattle.scene.specs.Reading.{acceptedSaid, readScene, readOf}
 use Rattle.scene.specs.Reads.{Reads, startingCell, areasAfter}
 use Rattle.scene.specs.declared.Reading.{Reading}
@@ -35,7 +36,7 @@ use Rattle.scene.proofs.read.Reads.{Post}
 use Rattle.writer.specs.Scene.{sceneOf}
 use Rattle.writer.specs.Writes.{Writes}
 use Rattle.writer.specs.Writable.{Writable}
-use Rattle.writer.specs.RoundTrip.{Words, Restored, Rewritten}
+use Rattle.writer.specs.RoundTrip.{Words, writtenMarks, Restored, Rewritten}
 use Rattle.writer.specs.declared.Writing.{Writing}
 use Rattle.writer.specs.declared.Writing.the-variants.{Written}
 use Rattle.writer.proofs.CheckLaws.{good-names, names-good}
@@ -44,6 +45,7 @@ use Rattle.writer.proofs.Unique.{same-numbers}
 use Rattle.writer.proofs.ReadBack.{saying, statementsOf, scene-read}
 use Rattle.writer.proofs.NoLonger.{no-longer}
 use Rattle.writer.proofs.CellsBack.{cells-back}
+use Rattle.writer.proofs.MarksBack.{marks-back}
 
 -- ---- about the definitions
 
@@ -64,13 +66,18 @@ module _ (n : ℕ) (identifiers cells : List ℕ) (w : Writable n identifiers ce
   pub made-back : AllBytes cells → cellsOf startingCell says ≡ cells
   made-back bytes = rw (w .sized .regions) (cells-back n cells (w .sized .square .size) (bytes .small))
 
+  -- each cell that is not 255 marked by its own statement
+  pub marked-back : AllBytes cells → marksOf startingCell says ≡ writtenMarks n cells
+  marked-back bytes = rw (w .sized .regions) (marks-back n cells (bytes .small))
+
 -- ---- about the calls
 
 -- areas that are filled with what a scene says
-filled-with : (said : Said) (before : Areas) (identifiers cells : List ℕ) → Lent before → said .identifiers ≡ identifiers
-    → cellsOf startingCell said ≡ cells
-    → filled startingCell said before ≡ holding (padded lentIdentifiers identifiers) (padded lentCells cells)
-filled-with said before identifiers cells lent e d = rw (d, lent .identifiers-long, lent .cells-long, e)
+filled-with : (said : Said) (before : Areas) (identifiers cells marks : List ℕ) → Lent before → said .identifiers ≡ identifiers
+    → cellsOf startingCell said ≡ cells → marksOf startingCell said ≡ marks
+    → filled startingCell said before ≡ holding (padded lentIdentifiers identifiers) (padded lentCells cells) (padded lentCells marks)
+filled-with said before identifiers cells marks lent e d m =
+    rw (d, m, lent .identifiers-long, lent .cells-long, lent .marks-long, e)
 
 -- the bytes that a write left in front, as many as it answered, read back to what was written
 pub round-trip : {n : ℕ} {identifiers cells buffer after : List ℕ} {bytes : ℕ} → Words identifiers → AllBytes cells
@@ -90,7 +97,8 @@ round-trip {n} {identifiers} {cells} {buffer} {after} {bytes} words small writes
     record {
       regions = answer-tells reading (Accepted n) (rw ending at (reads .answer) ∙ ap accepts (w .sized .regions));
       areas = reads .areas ∙ ap (λ (e : Ending Said). areasAfter e lent) ending
-          ∙ filled-with said lent identifiers cells right refl (made-back n identifiers cells w words small);
+          ∙ filled-with said lent identifiers cells (writtenMarks n cells) right refl (made-back n identifiers cells w words small)
+          (marked-back n identifiers cells w words small);
     }
 
 -- ---- the other way: what was read is written
@@ -130,15 +138,17 @@ bytes-said said =
 
 -- what was said is written into any buffer as long as the scene that said it
 module _ (scene : List ℕ) (said : Said) (bytes : AllBytes scene) (alone : readScene scene ≡ acceptedSaid said) where
-  said-again : (buffer after : List ℕ) (writing : Writing) → length scene ≤ length buffer
+  said-again : (marks buffer after : List ℕ) (writing : Writing) → length scene ≤ length buffer
       → ((p : ℕ) → p < regions said * regions said → getD (cellsOf startingCell said) p 0 ≡ 0 → ⊥)
       → Writes (regions said) (said .identifiers) (cellsOf startingCell said) buffer after writing
-      → Rewritten scene (holding (padded lentIdentifiers (said .identifiers)) (padded lentCells (cellsOf startingCell said))) after
+      → Rewritten scene (holding (padded lentIdentifiers (said .identifiers)) (padded lentCells (cellsOf startingCell said)) marks) after
       (regions said) writing
-  said-again buffer after writing fits full writes =
+  said-again marks buffer after writing fits full writes =
       let n : ℕ = regions said in
       let cells : List ℕ = cellsOf startingCell said in
       let size : ℕ = length (sceneOf n (said .identifiers) cells) in
+      let front : take (n * n) (padded lentCells cells) ≡ cells =
+      padded-front lentCells cells (length-grid n (statedCell startingCell (said .statements))) refl in
       let shorter = no-longer scene alone in
       let written = is-written n (said .identifiers) cells (length buffer) (rewritable scene alone full) (omega arith) in
       let answer : writing ≡ Written size = same-numbers writing (Written size) (rw written at (writes .answer)) in
@@ -148,7 +158,7 @@ module _ (scene : List ℕ) (said : Said) (bytes : AllBytes scene) (alone : read
         shorter = shorter;
         again = λ lent read reading right reads.
             let r = round-trip (record { small = accepted-small scene bytes alone }) (bytes-said said) (rw answer at writes) right reads in
-            (r .regions, r .areas);
+            (r .regions, rw front (r .areas));
       }
 
 -- the cells that were read stand in front of the area, so none of them is empty where none of the area's is
@@ -173,14 +183,14 @@ reads-rewritable {scene} {n = n} reads full =
     (left .counted) (rewritable scene (left .alone)) (full-said left full))
 
 -- and about the generated Post of `read`
-pub read-rewritable : (κs : Lfts 3) (a : Dens κs kinds.ps) (r : resT kinds.r κs .Denot) (s : AtExit (endedOf 3 kinds.ps kinds.r) κs)
+pub read-rewritable : (κs : Lfts 4) (a : Dens κs kinds.ps) (r : resT kinds.r κs .Denot) (s : AtExit (endedOf 4 kinds.ps kinds.r) κs)
     → Post κs a r s → (n : ℕ) → r ≡ Accepted n → ((p : ℕ) → p < n * n → getD (now (s .1 .1 .0)) p 0 ≡ 0 → ⊥)
     → Writable n (take n (now (s .1 .0))) (take (n * n) (now (s .1 .1 .0)))
 read-rewritable κs a r s post n accepted = reads-rewritable (rw accepted at post)
 
 -- What was read from an accepted scene, with no empty cell, is written into any buffer as long as that scene, in no more bytes, and
--- reading that again gives the same. The written scene is a normal form: what may be lost is the order of the statements, that a
--- cell was stated more than once, and statements of 255.
+-- reading that again gives the same, with the marks of the written scene. That is a normal form: what may be lost is the order of the
+-- statements, so the marks too, that a cell was stated more than once, and statements of 255.
 pub read-write-read : {scene : List ℕ} {lent read : Areas} {n : ℕ} → AllBytes scene → Reads scene lent read (Accepted n)
     → ((p : ℕ) → p < n * n → getD (read .cells) p 0 ≡ 0 → ⊥)
     → {buffer after : List ℕ} {writing : Writing} → length scene ≤ length buffer
@@ -191,15 +201,15 @@ read-write-read {scene} {lent} {read} {n} bytes reads full {buffer} {after} {wri
     let said = left .said in
     let cells : List ℕ = grid n (statedCell startingCell (said .statements)) in
     let same : Writes n (said .identifiers) cells buffer after writing = rw (left .identifiers-front, left .cells-front) at writes in
-    let are : holding (padded lentIdentifiers (said .identifiers)) (padded lentCells cells) ≡ read =
-    sym (holding-both read (left .identifiers-are) (left .cells-are)) in
+    let are : holding (padded lentIdentifiers (said .identifiers)) (padded lentCells cells) (read .marks) ≡ read =
+    sym (holding-all read (left .identifiers-are) (left .cells-are)) in
     subst (λ (a : Areas). Rewritten scene a after n writing) are
     (subst
     (λ (k : ℕ). let c : List ℕ = grid k (statedCell startingCell (said .statements)) in
     ((p : ℕ) → p < k * k → getD c p 0 ≡ 0 → ⊥) → Writes k (said .identifiers) c buffer after writing
-    → Rewritten scene (holding (padded lentIdentifiers (said .identifiers)) (padded lentCells c)) after k writing)
-    (left .counted) (said-again scene said bytes (left .alone) buffer after writing fits) (full-said left full) same)
+    → Rewritten scene (holding (padded lentIdentifiers (said .identifiers)) (padded lentCells c) (read .marks)) after k writing)
+    (left .counted) (said-again scene said bytes (left .alone) (read .marks) buffer after writing fits) (full-said left full) same)
   where
-    holding-both : (areas : Areas) {identifiers cells : List ℕ} → areas .identifiers ≡ identifiers → areas .cells ≡ cells
-        → areas ≡ holding identifiers cells
-    holding-both areas e d = rw (← e, ← d)
+    holding-all : (areas : Areas) {identifiers cells : List ℕ} → areas .identifiers ≡ identifiers → areas .cells ≡ cells
+        → areas ≡ holding identifiers cells (areas .marks)
+    holding-all areas e d = rw (← e, ← d)

@@ -11,8 +11,7 @@ use lib.Seq.{take-suc}
 use Rattle.relation.specs.Sets.{universal}
 use Rattle.lists.proofs.Splits.{by-test, split-lt}
 use Rattle.scene.specs.Format.{regionRecord}
-use Rattle.writer.specs.Scene.{regionRecords, cellRecord, statementRecords, sceneOf}
-use Rattle.writer.specs.Inner.{statedCount}
+use Rattle.writer.specs.Scene.{regionRecords, cellRecord, statementRecords, sceneOf, statedCount}
 
 -- ---- regions
 

@@ -17,12 +17,11 @@ use Rattle.lists.specs.Laid.{laid}
 use Rattle.answer.specs.Answer.{Answer, refuses}
 use Rattle.answer.specs.Ending.{refused, stop}
 use Rattle.scene.specs.Format.{mostBytes}
-use Rattle.writer.specs.Scene.{sceneOf}
+use Rattle.writer.specs.Scene.{sceneOf, statedCount}
 use Rattle.writer.specs.Writing.{written, refusedWith, refusedRegion, refusedCell, firstBad, checked, writeOf}
 use Rattle.writer.specs.Numbers.{answerOf}
 use Rattle.writer.specs.Writes.{bufferAfter, Writes}
 use Rattle.writer.specs.Writable.{Sized, Writable}
-use Rattle.writer.specs.Inner.{statedCount}
 use Rattle.writer.specs.declared.Writing.{Writing}
 use Rattle.writer.specs.declared.Writing.the-variants.{Written}
 use Rattle.writer.proofs.SceneLaws.{length-scene}

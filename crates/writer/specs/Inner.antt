@@ -1,19 +1,11 @@
 -- What functions inside the crate ask and promise; no public contract cites it.
 use mathlib.Core.Path.{_≡_}
-use Prim.Native.Nat.{ℕ, zero, suc, _+_, _*_, _≤_}
-use mathlib.Core.Bool.{cond}
+use Prim.Native.Nat.{ℕ, _+_, _*_, _≤_}
 use mathlib.Core.List.{List}
-use lib.Dec.{eqb}
-use lib.ListN.{length, getD}
+use lib.ListN.{length}
 use lib.Seq.{sets}
-use Rattle.relation.specs.Sets.{universal}
 use Rattle.writer.specs.Scene.{statementRecords, sceneOf}
 use Rattle.writer.specs.Writable.{Sized}
-
--- how many of the first `count` cells are not 255
-unfoldable pub statedCount : ℕ → List ℕ → ℕ
-statedCount zero cells = 0
-statedCount (suc p) cells = statedCount p cells + cond (eqb (getD cells p 0) universal) 0 1
 
 -- so few regions and cells that the length of their scene is a small number
 pub record Few (n : ℕ) (cells : List ℕ) : Type 0 where

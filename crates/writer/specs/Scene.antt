@@ -1,5 +1,5 @@
 -- The scene that identifiers and cells make.
-use Prim.Native.Nat.{ℕ, zero, suc, _*_}
+use Prim.Native.Nat.{ℕ, zero, suc, _+_, _*_}
 use mathlib.Core.Bool.{cond}
 use mathlib.Core.List.{List, [], _∷_, _++_}
 use lib.Dec.{eqb}
@@ -30,3 +30,8 @@ statementRecords (suc p) n identifiers cells =
 unfoldable pub sceneOf : ℕ → List ℕ → List ℕ → List ℕ
 sceneOf n identifiers cells =
     regionRecords identifiers ++ (statementRecords (n * n) n identifiers cells ++ (endKind ∷ []))
+
+-- how many of the first `count` cells are not 255
+unfoldable pub statedCount : ℕ → List ℕ → ℕ
+statedCount zero cells = 0
+statedCount (suc p) cells = statedCount p cells + cond (eqb (getD cells p 0) universal) 0 1

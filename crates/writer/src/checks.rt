@@ -11,7 +11,8 @@ ghost use mathlib.Core.Bool.{_||_};
 ghost use Prim.Native.Nat.{_+_, _*_, _≤_};
 ghost use lib.ListN.{length};
 ghost use Rattle.writer.specs.Writing.{isZero, isRepeated, firstBad};
-ghost use Rattle.writer.specs.Inner.{Few, statedCount};
+ghost use Rattle.writer.specs.Scene.{statedCount};
+ghost use Rattle.writer.specs.Inner.{Few};
 
 // Whether the identifier at a place is 0 or names an earlier place too.
 fn is_bad(identifiers: &[u32], place: Place) -> bool

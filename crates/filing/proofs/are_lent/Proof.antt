@@ -10,7 +10,11 @@ returns c = rw (ne-eqb _ 64 (c .if1 .taken))
 
 returns-2 : tie.Need-returns-2
 unfolding areLent
-returns-2 c = rw (eq-eqb _ 64 (c .if1 .left))
+returns-2 c = rw (eq-eqb _ 64 (c .before .if1 .left), ne-eqb _ 4096 (c .if2 .taken))
+
+returns-3 : tie.Need-returns-3
+unfolding areLent
+returns-3 c = rw (eq-eqb _ 64 (c .before .if1 .left), eq-eqb _ 4096 (c .if2 .left))
 
 pub are-lent-spec : {M : Type 1} → statement M
-are-lent-spec = tie.close (tie.spec returns returns-2)
+are-lent-spec = tie.close (tie.spec returns returns-2 returns-3)

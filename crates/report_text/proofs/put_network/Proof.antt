@@ -10,27 +10,28 @@ use Rattle.report_text.proofs.put_network.Tie as tie
 -- what is known of the arguments
 known : (c : tie.After-slice-known)
     → AcceptedMatrix (c .before .args .n) (now (c .before .args .stated)) (now (c .before .args .network)) (c .before .args .rounds)
-known c = record { stated-so = c .before .pre .0; ending = c .before .pre .1 }
+known c = record { stated-so = c .before .pre .0; ending = c .before .pre .2 }
 
 array-share-prefix-first : tie.Need-array-share-prefix-first
 array-share-prefix-first c =
     let at-prepare = c .before .before in
     let at-first = at-prepare .before .before in
-    omega (arith, cells-few (known (at-first .before .before .before .before)), at-prepare .prepare .kept .1 .1 .0)
+    omega (arith, cells-few (known (at-first .before .before .before .before .before)), at-prepare .prepare .kept .1 .1 .0)
 
 slice-aggregate-arcs : tie.Need-slice-aggregate-arcs
 slice-aggregate-arcs c =
     let at-prepare = c .before .before .before in
     let at-first = at-prepare .before .before in
-    sym (arcs-long (known (at-first .before .before .before .before)) (at-prepare .prepare .ensures))
+    sym (arcs-long (known (at-first .before .before .before .before .before)) (at-prepare .prepare .ensures))
 
 put-pairs-requires : tie.Need-put-pairs-requires
 put-pairs-requires c κs =
     let at-put-accepted = c .before .before .before in
     let at-prepare = at-put-accepted .before .before .before .before .before in
     let at-first = at-prepare .before .before in
-    let at-start = known (at-first .before .before .before .before) in
-    network-paired at-start (omega (arith, arcs-long at-start (at-prepare .prepare .ensures), at-start .stated-so .size))
+    let at-start = at-first .before .before .before .before .before in
+    network-paired (known at-start)
+    (omega (arith, arcs-long (known at-start) (at-prepare .prepare .ensures), known at-start .stated-so .size)) (at-start .before .pre .1 .size)
 
 returns : tie.Need-returns
 returns c =
@@ -38,8 +39,8 @@ returns c =
     let at-put-accepted = at-put-pairs .before .before .before .before in
     let at-prepare = at-put-accepted .before .before .before .before .before in
     let at-first = at-prepare .before .before in
-    let at-start = at-first .before .before .before .before in
-    network-adds (known at-start) (at-prepare .prepare .ensures) (now (at-start .before .args .identifiers))
+    let at-start = at-first .before .before .before .before .before in
+    network-adds (known at-start) (at-prepare .prepare .ensures) (now (at-start .before .args .identifiers)) (now (at-start .before .args .marks))
     (at-put-accepted .put-accepted .ensures) (at-put-pairs .put-pairs .ensures)
 
 pub put-network-spec : {M : Type 1} → statement M

@@ -7,11 +7,13 @@ use Rattle.report_text.proofs.put_refined.Statement.{statement}
 use Rattle.report_text.proofs.put_refined.Tie as tie
 
 -- what is known of the arguments
-call : (c : tie.After-shared-slice-known2)
-    → Call (c .before .before .before .args .n) (now (c .before .before .before .args .identifiers)) (now (c .before .before .before .args .stated))
+call : (c : tie.After-shared-slice-known3)
+    → Call (c .before .before .before .before .args .n) (now (c .before .before .before .before .args .identifiers))
+    (now (c .before .before .before .before .args .stated)) (now (c .before .before .before .before .args .marks))
 call c = record {
-  stated-so = c .before .before .before .pre;
-  identifiers-small = λ k. omega (arith, c .before .shared-slice-known .given k);
+  stated-so = c .before .before .before .before .pre .0;
+  identifiers-small = λ k. omega (arith, c .before .before .shared-slice-known .given k);
+  marks-small = λ k. omega (arith, c .shared-slice-known3 .given k);
 }
 
 put-network-requires : tie.Need-put-network-requires
@@ -19,8 +21,9 @@ put-network-requires c κs =
     let at-network = c .before in
     let at-verdict = at-network .before .before .before .before in
     let at-refine = at-verdict .before .before .before .before in
-    let known = call (at-refine .before .before .before) in
-    (known .stated-so, accepted-network known (at-refine .refine .ensures) (at-verdict .verdict .given .1) (at-network .network .ensures) .ending)
+    let at-start = at-refine .before .before .before in
+    let known = call at-start in
+    (known .stated-so, at-start .before .before .before .before .pre .1, accepted-network known (at-refine .refine .ensures) (at-verdict .verdict .given .1) (at-network .network .ensures) .ending)
 
 enum-told : tie.Need-enum-told
 enum-told c = search needs

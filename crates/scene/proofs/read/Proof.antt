@@ -12,14 +12,14 @@ returns c = wrong-length _ _ (sym (c .before .are-lent .ensures) ∙ not-true _ 
 
 returns-2 : tie.Need-returns-2
 returns-2 c =
-    let cleared = c .before .before .before .before in
-    let over = cleared .before .before .before in
+    let cleared = c .before .before .before .before .before .before in
+    let over = cleared .before .before .before .before in
     let lent = over .before in
     too-long (lent-so _ (sym (lent .before .are-lent .ensures) ∙ not-false _ (lent .if1 .left))) (over .if2 .taken) (cleared .clear .ensures)
 
 read-records-requires : tie.Need-read-records-requires
 read-records-requires c κs =
-    let short = c .before .before in
+    let short = c .before .before .before in
     let lent = short .before in
     record { lent = lent-so _ (sym (lent .before .are-lent .ensures) ∙ not-false _ (lent .if1 .left)); scene-short = short .if2 .left }
 
@@ -27,6 +27,6 @@ pub read-spec : {M : Type 1} → statement M
 read-spec =
     tie.close
     (tie.spec
-    (λ c κs. search needs) (λ c. search needs) (λ c. search needs) returns
-    (λ c κs. search needs) (λ c. search needs) (λ c. search needs) returns-2 read-records-requires
-    (λ c. search needs) (λ c. search needs) (λ c. search needs))
+    (λ c κs. search needs) (λ c. search needs) (λ c. search needs) (λ c. search needs) returns
+    (λ c κs. search needs) (λ c. search needs) (λ c. search needs) (λ c. search needs) returns-2 read-records-requires
+    (λ c. search needs) (λ c. search needs) (λ c. search needs) (λ c. search needs))

@@ -1,6 +1,6 @@
 -- `report_text::lines::put_refusal` meets its contract: its fields one behind the other are the line.
 use borrow.Author.Needs.{needs}
-use Rattle.report_text.proofs.LineLaws.{five-adds}
+use Rattle.report_text.proofs.LineLaws.{line-begin, line-more, line-end}
 use Rattle.report_text.proofs.lines.put_refusal.Statement.{statement}
 use Rattle.report_text.proofs.lines.put_refusal.Tie as tie
 
@@ -12,8 +12,10 @@ returns c =
     let at-put-field2 = at-put-field3 .before .before .before .before in
     let at-put-field = at-put-field2 .before .before .before .before in
     let at-put-word = at-put-field .before .before .before .before in
-    five-adds (at-put-word .put-word .ensures) (at-put-field .put-field .ensures) (at-put-field2 .put-field2 .ensures)
-    (at-put-field3 .put-field3 .ensures) (at-put-field4 .put-field4 .ensures) (at-put-word2 .put-word2 .ensures)
+    line-begin (at-put-word .put-word .ensures)
+    (line-more (at-put-field .put-field .ensures)
+    (line-more (at-put-field2 .put-field2 .ensures)
+    (line-more (at-put-field3 .put-field3 .ensures) (line-end (at-put-field4 .put-field4 .ensures) (at-put-word2 .put-word2 .ensures)))))
 
 pub put-refusal-spec : {M : Type 1} → statement M
 put-refusal-spec =

@@ -4,7 +4,7 @@ use mathlib.Core.Logic.{⊎-elim}
 use Prim.Native.Nat.{ℕ, _≤_, _-_}
 use native.Mathlib.Omega.{arith}
 use lib.ListN.{length}
-use Rattle.writer.specs.Inner.{statedCount}
+use Rattle.writer.specs.Scene.{statedCount}
 use Rattle.writer.proofs.SceneLaws.{counted-same, counted-more, counted-most}
 use Rattle.writer.proofs.checks.stated_count.Statement.{statement}
 use Rattle.writer.proofs.checks.stated_count.Tie as tie
