@@ -325,6 +325,30 @@ static void read_with_wrong(struct lengths wrong)
     read_with(large, CHACHAQOM_SCENE_LIMIT + 1, wrong, refused, nothing());
 }
 
+/* Every other length of the marks, up to twice the right one: 2, and not a byte is touched. */
+static void run_every_length_of_marks(void)
+{
+    static const uint8_t scene[] = { 1, 0, 0, 0, 7, 3 };
+    static const uint8_t wrong[CHACHAQOM_ANSWER_LENGTH] = { 0, 0, 0, CHACHAQOM_WRONG_LENGTH };
+    static uint8_t areas[3][2 * CHACHAQOM_MARKS_LENGTH], untouched[2 * CHACHAQOM_MARKS_LENGTH];
+    uint8_t answer[CHACHAQOM_ANSWER_LENGTH];
+    size_t length, k;
+
+    memset(areas, 0xa5, sizeof areas);
+    memset(untouched, 0xa5, sizeof untouched);
+    for (length = 0; length <= sizeof untouched; length++) {
+        if (length == CHACHAQOM_MARKS_LENGTH)
+            continue;
+        memset(answer, 0x5a, sizeof answer);
+        check(chachaqom_read(scene, sizeof scene, areas[0], CHACHAQOM_IDENTIFIERS_LENGTH,
+                             areas[1], CHACHAQOM_CELLS_LENGTH, areas[2], length,
+                             answer, sizeof answer) == CHACHAQOM_WRONG_LENGTH, "number");
+        check(memcmp(answer, wrong, sizeof answer) == 0, "answer");
+        for (k = 0; k < COUNT_OF(areas); k++)
+            check(memcmp(areas[k], untouched, sizeof untouched) == 0, "an area was touched");
+    }
+}
+
 static void run_reading_lengths(void)
 {
     const size_t identifiers = CHACHAQOM_IDENTIFIERS_LENGTH, cells = CHACHAQOM_CELLS_LENGTH;
@@ -355,6 +379,8 @@ static void run_reading_lengths(void)
     checking = "reading: another length of the marks";
     for (i = 0; i < COUNT_OF(of_marks); i++)
         read_with_wrong(lengths_of(identifiers, cells, of_marks[i], answer));
+    checking = "reading: every other length of the marks, up to twice the right one";
+    run_every_length_of_marks();
     checking = "reading: an empty scene, a null one too";
     read_refused(empty, 0, CHACHAQOM_CUT_SHORT, 0);
 }

@@ -53,10 +53,10 @@ fn clear_identifiers(identifiers: &mut [u32])
 fn clear_marks(marks: &mut [u16])
     ensures { λ _. ⌜ now (marks .exit) ≡ replicate (length (now (marks .entry))) 0 ⌝ }
 {
-    let mut place: usize = 0;
-    while place < marks.len() {
-        marks[place] = 0;
-        place += 1;
+    let mut at: usize = 0;
+    while at < marks.len() {
+        marks[at] = 0;
+        at += 1;
     }
 }
 
@@ -197,7 +197,7 @@ pub fn pack_marks(marks: &mut [u16], n: usize)
     if marks.len() != LENT_CELLS {
         return;
     }
-    if MOST_REGIONS < n {
+    if n > MOST_REGIONS {
         return;
     }
     pack_mark_rows(marks, n);

@@ -1,4 +1,4 @@
--- `filing::clear_marks` meets its contract. The loop's invariant: the entries before `place` are 0.
+-- `filing::clear_marks` meets its contract. The loop's invariant: the entries before `at` are 0.
 use Prim.Native.Nat.{_-_}
 use native.Mathlib.Omega.{arith}
 use lib.ListN.{length, replicate}
@@ -8,10 +8,10 @@ use Rattle.filing.proofs.clear_marks.Statement.{statement}
 use Rattle.filing.proofs.clear_marks.Tie as tie
 
 abbrev Inv-loop : tie.InvT-loop
-Inv-loop marks₀ place₀ marks place = Filling (replicate (length marks₀) 0) marks₀ marks place
+Inv-loop marks₀ at₀ marks at = Filling (replicate (length marks₀) 0) marks₀ marks at
 
 abbrev μ-loop : tie.MeasureT-loop
-μ-loop marks₀ place₀ marks place = length marks₀ - place
+μ-loop marks₀ at₀ marks at = length marks₀ - at
 
 loop-holds : tie.Need-loop-holds Inv-loop μ-loop
 loop-holds c = filling-begins _ _
