@@ -10,7 +10,7 @@ use lib.ListN.{length, getD, take, length-take}
 use lib.Seq.{getD-take}
 use Rattle.lists.specs.Least.{least}
 use Rattle.lists.proofs.LeastLaws.{least-same}
-use Rattle.region.specs.Lookup.{place, identifier, declared, firstHolding, lookupOf}
+use Rattle.region.specs.Lookup.{place, identifier, entriesCounted, firstHolding, lookupOf}
 use Rattle.region.specs.declared.Identifier.{Identifier}
 use Rattle.region.specs.declared.Place.{Place}
 use Rattle.region.specs.declared.Found.{Found}
@@ -30,7 +30,7 @@ found-same n m test other e same =
 pub place-front : (area : List ℕ) (count : ℕ) (wanted : Identifier) → lookupOf area count wanted ≡ placeOf (naming (take count area)) wanted
 unfolding placeOf lookupOf firstHolding
 place-front area count wanted =
-    found-same (declared area count) (declared (take count area) (length (take count area)))
+    found-same (entriesCounted area count) (entriesCounted (take count area) (length (take count area)))
     (λ p. eqb (getD area p 0) (wanted .0))
     (λ p. eqb (getD (take count area) p 0) (wanted .0))
     (omega (arith, length-take count area))

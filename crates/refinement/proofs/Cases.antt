@@ -13,10 +13,10 @@ use Rattle.refinement.specs.Prepare.{preparation}
 use Rattle.refinement.specs.Round.{through, round, ranOut}
 use Rattle.refinement.specs.Step.{stepOf}
 use Rattle.refinement.specs.Refine.{mostRounds, rounds, refine, refined}
-use Rattle.refinement.specs.Cases.{state, holds, sameNumbers, fits, right, allRight, case, cases, fourRegions}
+use Rattle.refinement.specs.Cases.{state, hasEntries, sameNumbers, meetsExpected, right, allRight, case, cases, fourRegions}
 
 computed : T (allRight cases) × T (allRight fourRegions)
-unfolding cases fourRegions case allRight right fits sameNumbers holds state
+unfolding cases fourRegions case allRight right meetsExpected sameNumbers hasEntries state
     refined refine preparation rounds stepOf mostRounds node emptyRegion arc round through ranOut
     inRange hasSquare grid tabled firstEmpty firstChange least leastFrom
     converse flip compose table rows over unionOf has

@@ -29,27 +29,27 @@ unfoldable pub state : ℕ → List Entry → List ℕ → List ℕ
 state n [] m = m
 state n (is i j s ∷ entries) m = state n entries (set m (i * n + j) s)
 
-unfoldable pub holds : ℕ → List ℕ → List Entry → Bool
-holds n m [] = true
-holds n m (is i j s ∷ entries) = eqb (cell n m i j) s && holds n m entries
+unfoldable pub hasEntries : ℕ → List ℕ → List Entry → Bool
+hasEntries n m [] = true
+hasEntries n m (is i j s ∷ entries) = eqb (cell n m i j) s && hasEntries n m entries
 
 unfoldable pub sameNumbers : Answer → Answer → Bool
 sameNumbers a b =
     eqb (a .number) (b .number)
     && (eqb (a .first) (b .first) && (eqb (a .second) (b .second) && (eqb (a .third) (b .third) && eqb (a .count) (b .count))))
 
-unfoldable pub fits : ℕ → Expected → Ending (List ℕ) → Bool
-fits n (accepts entries count) (accepted m rounds) = eqb count rounds && holds n m entries
-fits n (accepts entries count) (refused numbers) = false
-fits n (refuses expected) (accepted m rounds) = false
-fits n (refuses expected) (refused numbers) = sameNumbers expected numbers
+unfoldable pub meetsExpected : ℕ → Expected → Ending (List ℕ) → Bool
+meetsExpected n (accepts entries count) (accepted m rounds) = eqb count rounds && hasEntries n m entries
+meetsExpected n (accepts entries count) (refused numbers) = false
+meetsExpected n (refuses expected) (accepted m rounds) = false
+meetsExpected n (refuses expected) (refused numbers) = sameNumbers expected numbers
 
 -- the call answers as the row expects; cells not given are universal
 unfoldable pub right : Case → Bool
 right c =
     let n : ℕ = c .regions in
     let m : List ℕ = state n (c .stated) (replicate (n * n) universal) in
-    fits n (c .answer) (refined n m (n * n) (n * n))
+    meetsExpected n (c .answer) (refined n m (n * n) (n * n))
 
 unfoldable pub allRight : List Case → Bool
 allRight [] = true

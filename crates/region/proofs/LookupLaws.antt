@@ -7,7 +7,7 @@ use native.Mathlib.Omega.{arith}
 use borrow.Author.Tests.{lt-ltb, le-ltb, eqb-true, eqb-false, ne-eqb, eq-eqb}
 use lib.Dec.{eqb}
 use lib.ListN.{length, getD}
-use Rattle.region.specs.Lookup.{place, identifier, declared, firstHolding, lookupOf}
+use Rattle.region.specs.Lookup.{place, identifier, entriesCounted, firstHolding, lookupOf}
 use Rattle.region.specs.declared.Identifier.{Identifier}
 use Rattle.region.specs.declared.Place.{Place}
 use Rattle.region.specs.declared.Found.the-variants.{At, Nothing}
@@ -29,15 +29,15 @@ module _ (identifiers : List ℕ) (count : ℕ) (wanted : Identifier) where
   abbrev Passed : ℕ → Type 0
   Passed p = (k : ℕ) → k < p → holding k ≡ false
 
-  at-first : (p : ℕ) → p ≡ firstHolding identifiers count (wanted .0) → p < declared identifiers count
+  at-first : (p : ℕ) → p ≡ firstHolding identifiers count (wanted .0) → p < entriesCounted identifiers count
       → At (place p) ≡ lookupOf identifiers count wanted
   unfolding lookupOf
-  at-first p e l = rw (← e, lt-ltb p (declared identifiers count) l)
+  at-first p e l = rw (← e, lt-ltb p (entriesCounted identifiers count) l)
 
-  at-none : (p : ℕ) → p ≡ firstHolding identifiers count (wanted .0) → declared identifiers count ≤ p
+  at-none : (p : ℕ) → p ≡ firstHolding identifiers count (wanted .0) → entriesCounted identifiers count ≤ p
       → Nothing ≡ lookupOf identifiers count wanted
   unfolding lookupOf
-  at-none p e l = rw (← e, le-ltb p (declared identifiers count) l)
+  at-none p e l = rw (← e, le-ltb p (entriesCounted identifiers count) l)
 
   -- a search that has passed the first p entries finds the identifier at p
   pub finds-here : (p : ℕ) → p < count → p < length identifiers → Passed p → getD identifiers p 0 ≡ wanted .0
@@ -45,20 +45,20 @@ module _ (identifiers : List ℕ) (count : ℕ) (wanted : Identifier) where
   unfolding firstHolding
   finds-here p l u before e =
       let found : holding p ≡ true = eq-eqb (getD identifiers p 0) (wanted .0) e in
-      at-first p (least-here (declared identifiers count) holding p (omega arith) before found) (omega arith)
+      at-first p (least-here (entriesCounted identifiers count) holding p (omega arith) before found) (omega arith)
 
   -- and where these are all, nothing
-  pub finds-nothing : (p : ℕ) → p ≡ declared identifiers count → Passed p → Nothing ≡ lookupOf identifiers count wanted
+  pub finds-nothing : (p : ℕ) → p ≡ entriesCounted identifiers count → Passed p → Nothing ≡ lookupOf identifiers count wanted
   unfolding firstHolding
-  finds-nothing p e before = at-none p (least-gone (declared identifiers count) holding p e before) (omega arith)
+  finds-nothing p e before = at-none p (least-gone (entriesCounted identifiers count) holding p e before) (omega arith)
 
   -- what is found is the first entry that holds the identifier
   pub lookup-found : (p : ℕ) → lookupOf identifiers count wanted ≡ At (place p) → Holds identifiers count p (wanted .0)
   unfolding firstHolding
   lookup-found p e =
       let q : ℕ = firstHolding identifiers count (wanted .0) in
-      let M = least-is (declared identifiers count) holding in
-      split-lt q (declared identifiers count)
+      let M = least-is (entriesCounted identifiers count) holding in
+      split-lt q (entriesCounted identifiers count)
       (λ l.
       let same : place q ≡ place p = cc (at-first q refl l) in
       let s : q ≡ p = ap (λ (x : Place). x .0) same in
@@ -77,8 +77,8 @@ module _ (identifiers : List ℕ) (count : ℕ) (wanted : Identifier) where
   unfolding firstHolding
   lookup-nothing e k l u =
       let q : ℕ = firstHolding identifiers count (wanted .0) in
-      let M = least-is (declared identifiers count) holding in
-      split-lt q (declared identifiers count)
+      let M = least-is (entriesCounted identifiers count) holding in
+      split-lt q (entriesCounted identifiers count)
       (λ v. let z : _≡_ {A = ℕ} 0 1 = cc (at-first q refl v) in absurd (omega arith))
       (λ v. eqb-false (getD identifiers k 0) (wanted .0) (M .before k (omega arith)))
 

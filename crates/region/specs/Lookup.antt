@@ -19,15 +19,15 @@ abbrev pub identifier : ℕ → Identifier
 identifier x = record { 0 = x }
 
 -- how many of the entries count: the first `count`, or all where there are fewer
-abbrev pub declared : List ℕ → ℕ → ℕ
-declared identifiers count = min count (length identifiers)
+abbrev pub entriesCounted : List ℕ → ℕ → ℕ
+entriesCounted identifiers count = min count (length identifiers)
 
 -- the place of the first of those entries that holds the identifier
 unfoldable pub firstHolding : List ℕ → ℕ → ℕ → ℕ
-firstHolding identifiers count wanted = least (declared identifiers count) (λ p. eqb (getD identifiers p 0) wanted)
+firstHolding identifiers count wanted = least (entriesCounted identifiers count) (λ p. eqb (getD identifiers p 0) wanted)
 
 -- what looking up answers: that place, or nothing where no entry holds the identifier
 unfoldable pub lookupOf : List ℕ → ℕ → Identifier → Found
 lookupOf identifiers count wanted =
     let p : ℕ = firstHolding identifiers count (wanted .0) in
-    cond (ltb p (declared identifiers count)) (At (place p)) Nothing
+    cond (ltb p (entriesCounted identifiers count)) (At (place p)) Nothing

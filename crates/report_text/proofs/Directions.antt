@@ -24,7 +24,7 @@ use Rattle.scene.specs.Reading.{acceptedSaid, readScene}
 use Rattle.scene.specs.Reads.{startingCell}
 use Rattle.report_text.specs.Report.{letter, refinedReport, saidReport, readReport, reportOf, Reported}
 use Rattle.report_text.specs.Letters.{Shows}
-use Rattle.report_text.specs.Directions.{Agree, Redirected, ShowSame, SameButMarks}
+use Rattle.report_text.specs.Directions.{SameArcStage, Redirected, ShowSame, SameButMarks}
 use Rattle.report_text.proofs.Letters.{printed, report-shows}
 use Rattle.report_text.proofs.report.Kinds as reporting
 use Rattle.report_text.proofs.report.Reads.{Post as Reports}
@@ -47,7 +47,7 @@ module _ (n : ℕ) (start : ℕ → ℕ → ℕ) {one other : List Statement} (t
   pub turned-arcs : prepared n (grid n (statedCell start one)) ≡ prepared n (grid n (statedCell start other))
   turned-arcs = same-arcs n (grid n (statedCell start one)) (grid n (statedCell start other)) turned-same
 
-pub redirected-agree : {one other : Said} → Redirected one other → Agree one other
+pub redirected-agree : {one other : Said} → Redirected one other → SameArcStage one other
 redirected-agree {one} {other} r = record {
   identifiers = r .identifiers;
   arcs = turned-arcs (regions one) startingCell (r .statements)
@@ -62,7 +62,7 @@ same-letters n identifiers one other marks e (accepted network count) = rw e
 same-letters n identifiers one other marks e (refused numbers) = refl
 
 -- with the same marks the reports are the same
-agree-report : {one other : Said} → Agree one other → (marks : List ℕ) → saidReport one marks ≡ saidReport other marks
+agree-report : {one other : Said} → SameArcStage one other → (marks : List ℕ) → saidReport one marks ≡ saidReport other marks
 agree-report {one} {other} a marks =
     let n : ℕ = regions one in
     let here : List ℕ = cellsOf startingCell one in
@@ -80,7 +80,7 @@ refusal-unmarked said marks other e =
 
 module _ {scene scene′ buffer buffer₁ other other₁ : List ℕ} {count count′ : ℕ} (p : Reported scene buffer buffer₁ count)
     (q : Reported scene′ other other₁ count′) {said said′ : Said} (read : readScene scene ≡ acceptedSaid said)
-    (read′ : readScene scene′ ≡ acceptedSaid said′) (a : Agree said said′) where
+    (read′ : readScene scene′ ≡ acceptedSaid said′) (a : SameArcStage said said′) where
   abbrev here : List ℕ
   here = cellsOf startingCell said
 
@@ -128,7 +128,7 @@ pub agreeing-calls : (κs μs : Lfts 2) (a : Dens κs reporting.ps) (b : Dens μ
     (count : resT reporting.r κs .Denot) (count′ : resT reporting.r μs .Denot)
     (s : AtExit (endedOf 2 reporting.ps reporting.r) κs) (t : AtExit (endedOf 2 reporting.ps reporting.r) μs)
     → Reports κs a count s → Reports μs b count′ t → {said said′ : Said} → readScene (now (a .0)) ≡ acceptedSaid said
-    → readScene (now (b .0)) ≡ acceptedSaid said′ → Agree said said′
+    → readScene (now (b .0)) ≡ acceptedSaid said′ → SameArcStage said said′
     → SameButMarks said said′ count (now (s .1 .0)) count′ (now (t .1 .0))
 agreeing-calls κs μs a b count count′ s t p q read read′ agree = agreed p q read read′ agree
 

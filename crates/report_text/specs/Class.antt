@@ -17,10 +17,10 @@ enhanced = 69
 abbrev pub asStated : ℕ
 asStated = 83
 
-abbrev pub unknown : ℕ
-unknown = 85
+abbrev pub nothingKnown : ℕ
+nothingKnown = 85
 
 -- size s after the arc rule, refined size f: O if s = 1; D if f = 1 < s; E if s > f > 1; S if s = f and 1 < f < 8; U if both are 8
 unfoldable pub classOf : ℕ → ℕ → ℕ
 classOf s f =
-    cond (eqb s 1) observed (cond (eqb f 1) determined (cond (ltb f s) enhanced (cond (ltb f 8) asStated unknown)))
+    cond (eqb s 1) observed (cond (eqb f 1) determined (cond (ltb f s) enhanced (cond (ltb f 8) asStated nothingKnown)))

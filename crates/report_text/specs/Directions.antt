@@ -16,7 +16,7 @@ use Rattle.report_text.specs.Report.{letter, saidReport}
 use Rattle.report_text.specs.Letters.{Shows}
 
 -- they have the same regions and the same arc stage
-pub record Agree (one other : Said) : Type 0 where
+pub record SameArcStage (one other : Said) : Type 0 where
   pub identifiers : one .identifiers ≡ other .identifiers
   pub arcs : prepared (regions one) (cellsOf startingCell one) ≡ prepared (regions one) (cellsOf startingCell other)
 

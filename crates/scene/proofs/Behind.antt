@@ -16,7 +16,7 @@ use Rattle.scene.specs.Record.{fails}
 use Rattle.scene.specs.Reading.{refusedAt, records, readScene}
 use Rattle.scene.specs.Reached.{Reached, start, Whole, Region}
 use Rattle.scene.specs.Reached as reached
-use Rattle.scene.specs.Alike.{Agree, Alike, whole-alike, rest-alike, cut-alike}
+use Rattle.scene.specs.Alike.{SameFront, RefusedAlike, whole-alike, rest-alike, cut-alike}
 use Rattle.scene.proofs.Reasons.{Begins, Looks, Declares, States, Reason, decides, declares-why, states-why}
 use Rattle.scene.proofs.Reasons.{no-byte, unknown-kind, region-cut, zero-declared, declared-twice, too-many, new-region}
 use Rattle.scene.proofs.Reasons.{statement-cut, from-undeclared, to-undeclared, empty-set, statement, no-region, bytes-left}
@@ -25,14 +25,14 @@ use Rattle.scene.proofs.Reached.{at-refusal, ended-so}
 use Rattle.scene.proofs.Endings.{within-limit, stopped}
 
 module _ {scene other : List ℕ} where
-  fewer : {count : ℕ} (less : ℕ) → less ≤ count → Agree count scene other → Agree less scene other
+  fewer : {count : ℕ} (less : ℕ) → less ≤ count → SameFront count scene other → SameFront less scene other
   fewer less h a = record { there = omega (arith, a .there); same = λ k l. a .same k (omega arith) }
 
-  number-same : {count : ℕ} → Agree count scene other → (from : ℕ) → from + 4 ≤ count → numberAt scene from ≡ numberAt other from
+  number-same : {count : ℕ} → SameFront count scene other → (from : ℕ) → from + 4 ≤ count → numberAt scene from ≡ numberAt other from
   number-same a from h =
       rw (a .same from (omega arith), a .same (from + 1) (omega arith), a .same (from + 2) (omega arith), a .same (from + 3) (omega arith))
 
-  whole-same : {at kind : ℕ} → Agree (at + lengthOf kind) scene other → Whole scene at kind → Whole other at kind
+  whole-same : {at kind : ℕ} → SameFront (at + lengthOf kind) scene other → Whole scene at kind → Whole other at kind
   whole-same {at} {kind} a w =
       record { fits = a .there; kind-is = sym (a .same at (omega (arith, some-length kind))) ∙ w .kind-is }
 
@@ -41,7 +41,7 @@ module _ {scene other : List ℕ} where
   looks-same {said} {from} {found} e l =
       record { finds = subst (λ (x : ℕ). placeOf said (identifier x) ≡ found) e (l .finds) }
 
-  module _ (at : ℕ) (a : Agree (at + lengthOf regionKind) scene other) where
+  module _ (at : ℕ) (a : SameFront (at + lengthOf regionKind) scene other) where
     name-same : numberAt scene (at + 1) ≡ numberAt other (at + 1)
     name-same = number-same a (at + 1) (omega (arith, region-length))
 
@@ -52,7 +52,7 @@ module _ {scene other : List ℕ} where
     declares-same : {said : Said} {name : ℕ} → Declares scene said at name → Declares other said at name
     declares-same d = record { region = region-same (d .region); new = looks-same name-same (d .new); room = d .room }
 
-  module _ (at : ℕ) (a : Agree (at + lengthOf statementKind) scene other) where
+  module _ (at : ℕ) (a : SameFront (at + lengthOf statementKind) scene other) where
     from-same : numberAt scene (at + 1) ≡ numberAt other (at + 1)
     from-same = number-same a (at + 1) (omega (arith, statement-length))
 
@@ -73,7 +73,7 @@ module _ {scene other : List ℕ} where
         }
 
   -- an offset that one scene reaches, the other reaches too, and says the same on the way
-  reached-same : {at : ℕ} {said : Said} → Agree at scene other → Reached scene at said → Reached other at said
+  reached-same : {at : ℕ} {said : Said} → SameFront at scene other → Reached scene at said → Reached other at said
   reached-same a start = start
   reached-same a (reached.region {at} {said} name r e) =
       reached.region name (reached-same (fewer at (omega arith) a) r)
@@ -84,22 +84,22 @@ module _ {scene other : List ℕ} where
 
 -- the other scene reaches the refused record, and refuses it for the same reason
 record Same (scene other : List ℕ) (said : Said) (at number offset : ℕ) : Type 0 where
-  before : Agree at scene other
+  before : SameFront at scene other
   reason : Reason other said at (fails number offset)
 
 module _ (scene other : List ℕ) (said : Said) (at : ℕ) where
-  by-kind : (kind : ℕ) → getD scene at 0 ≡ kind → Agree (at + lengthOf (getD scene at 0)) scene other
-      → Agree (at + lengthOf kind) scene other
-  by-kind kind k a = subst (λ (x : ℕ). Agree (at + lengthOf x) scene other) k a
+  by-kind : (kind : ℕ) → getD scene at 0 ≡ kind → SameFront (at + lengthOf (getD scene at 0)) scene other
+      → SameFront (at + lengthOf kind) scene other
+  by-kind kind k a = subst (λ (x : ℕ). SameFront (at + lengthOf x) scene other) k a
 
-  before-it : {number offset count : ℕ} → Agree count scene other → at ≤ count → Reason other said at (fails number offset)
+  before-it : {number offset count : ℕ} → SameFront count scene other → at ≤ count → Reason other said at (fails number offset)
       → Same scene other said at number offset
   before-it a h r = record { before = fewer at h a; reason = r }
 
-  begins-same : {kind : ℕ} → Agree (at + 1) scene other → Begins scene at kind → Begins other at kind
+  begins-same : {kind : ℕ} → SameFront (at + 1) scene other → Begins scene at kind → Begins other at kind
   begins-same a b = record { begins = omega (arith, a .there); kind-is = sym (a .same at (omega arith)) ∙ b .kind-is }
 
-  same-reason : {number offset : ℕ} → Reason scene said at (fails number offset) → Alike scene other number offset
+  same-reason : {number offset : ℕ} → Reason scene said at (fails number offset) → RefusedAlike scene other number offset
       → Same scene other said at number offset
   same-reason (no-byte h) (whole-alike d e a) = absurd (d refl)
   same-reason (no-byte h) (cut-alike l a m) = absurd (omega arith)
@@ -141,7 +141,7 @@ module _ (scene other : List ℕ) (said : Said) (at : ℕ) where
       (bytes-left (whole-same (fewer (at + lengthOf endKind) (omega (arith, end-length)) a) w) z (omega (arith, a .there)))
 
 -- two scenes that agree up to and including the refused record get the same answer
-pub behind : (scene other : List ℕ) (number offset : ℕ) → records scene ≡ refusedAt number offset → Alike scene other number offset
+pub behind : (scene other : List ℕ) (number offset : ℕ) → records scene ≡ refusedAt number offset → RefusedAlike scene other number offset
     → records other ≡ refusedAt number offset
 behind scene other number offset e a =
     let s = stopped scene e in
@@ -152,6 +152,6 @@ behind scene other number offset e a =
 
 -- so reading it ends the same, both within the limit
 pub read-behind : (scene other : List ℕ) (number offset : ℕ) → length scene ≤ mostBytes → length other ≤ mostBytes
-    → readScene scene ≡ refusedAt number offset → Alike scene other number offset → readScene other ≡ refusedAt number offset
+    → readScene scene ≡ refusedAt number offset → RefusedAlike scene other number offset → readScene other ≡ refusedAt number offset
 read-behind scene other number offset h k e a =
     within-limit other k ∙ behind scene other number offset (sym (within-limit scene h) ∙ e) a
