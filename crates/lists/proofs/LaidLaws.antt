@@ -54,15 +54,15 @@ laid-again p filled before area h =
     ap (λ (r : List ℕ). take p filled ++ r) (drop_at (take p before) (drop p area) p (length-take-le p before h))
 
 -- an entry that is filled
-pub get_d_laid_in : (p : ℕ) (filled area : List ℕ) (q : ℕ) → q < p → p ≤ length filled → get_or (laid p filled area) q 0 ≡ get_or filled q 0
+pub get_or-laid_in : (p : ℕ) (filled area : List ℕ) (q : ℕ) → q < p → p ≤ length filled → get_or (laid p filled area) q 0 ≡ get_or filled q 0
 unfolding laid
-get_d_laid_in p filled area q h l =
+get_or-laid_in p filled area q h l =
     get_or-append (take p filled) (drop p area) 0 q (omega (arith, length-take p filled)) ∙ get_or-take p filled q 0 h
 
-pub get_d_laid_past : (p : ℕ) (filled area : List ℕ) (q : ℕ) → p ≤ q → p ≤ length filled
+pub get_or-laid_past : (p : ℕ) (filled area : List ℕ) (q : ℕ) → p ≤ q → p ≤ length filled
     → get_or (laid p filled area) q 0 ≡ get_or area q 0
 unfolding laid
-get_d_laid_past p filled area q h l =
+get_or-laid_past p filled area q h l =
     let t : length (take p filled) ≡ p = length-take-le p filled l in
     let e : length (take p filled) + (q - p) ≡ q = omega arith in
     subst (λ (x : ℕ). get_or (take p filled ++ drop p area) x 0 ≡ get_or area q 0) e

@@ -11,8 +11,8 @@ unfolding tabled
 length-tabled zero start f = refl
 length-tabled (suc count) start f = ap suc (length-tabled count (suc start) f)
 
-pub get_d_tabled : (count start : ℕ) (f : ℕ → ℕ) (p : ℕ) → p < count → get_or (tabled count start f) p 0 ≡ f (start + p)
+pub get_or-tabled : (count start : ℕ) (f : ℕ → ℕ) (p : ℕ) → p < count → get_or (tabled count start f) p 0 ≡ f (start + p)
 unfolding tabled
-get_d_tabled zero start f p h = absurd (not-suc-le-zero h)
-get_d_tabled (suc count) start f zero h = ap f (sym (add-zero start))
-get_d_tabled (suc count) start f (suc p) h = get_d_tabled count (suc start) f p (le_of_suc-le-suc h) ∙ ap f (omega arith)
+get_or-tabled zero start f p h = absurd (not-suc-le-zero h)
+get_or-tabled (suc count) start f zero h = ap f (sym (add-zero start))
+get_or-tabled (suc count) start f (suc p) h = get_or-tabled count (suc start) f p (le_of_suc-le-suc h) ∙ ap f (omega arith)

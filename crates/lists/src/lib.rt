@@ -1,5 +1,7 @@
 // What every layer does to lists: the least entry that passes a test, an area that is filled in front, numbers of 32 and of 16 bits as
 // bytes, big-endian. Every call is total.
+#![tactic(auto)]
+
 ghost use Rattle.std.specs.Prelude.{◌≡◌};
 ghost use Rattle.lists.specs.BigEndian.{number_at, number_put, two_bytes_put};
 ghost use Rattle.lists.specs.Inner.{Byte};
