@@ -9,7 +9,7 @@ use Rattle.relation.specs.Relations.{equal}
 use Rattle.relation.specs.Sets.{has, only, empty, universal, unite, over, Within}
 use Rattle.relation.specs.Converse.{flip, converse}
 use Rattle.relation.specs.Composition.{table, compose}
-use Rattle.lists.proofs.TabledLaws.{get_d_tabled}
+use Rattle.lists.proofs.TabledLaws.{get_or-tabled}
 use Rattle.relation.specs.Lent.{entry_at, listed, compose_by}
 use Rattle.relation.proofs.Member.{members_over, only-has, only_has_one, some_member}
 use Rattle.relation.proofs.Over.{over_part, over-same, over-only, over_onlys, over_empties, over-empty}
@@ -99,7 +99,7 @@ unfolding listed
 listed_at a q h l =
     let set : (8 * a + q) / 8 ≡ a = omega arith in
     let relation : (8 * a + q) % 8 ≡ q = omega arith in
-    get_d_tabled 2048 0 entry_at (8 * a + q) (omega arith)
+    get_or-tabled 2048 0 entry_at (8 * a + q) (omega arith)
     ∙ ap entry_at (zero-add (8 * a + q))
     ∙ rw (set, relation)
 

@@ -1,5 +1,7 @@
 // Sets of the eight relations between two regions, each set one byte: membership, intersection, converse, composition.
 // Every method is total; what each answers is a definition of specs/.
+#![tactic(auto)]
+
 mod table;
 
 ghost use Rattle.std.specs.Prelude.{◌≡◌, [], ◌∷◌, eqb};
@@ -11,7 +13,7 @@ ghost use Rattle.relation.specs.Lent.{listed, compose_by};
 
 use table::COMPOSITIONS;
 
-#[derive(Drop)]
+#[derive(Clone, Copy)]
 pub struct RelationSet(pub u8);
 
 // The table that composing reads: a set on the left, a single relation on the right.

@@ -4,12 +4,8 @@ use Rattle.lists.specs.Tabled.{tabled}
 use Rattle.relation.specs.Sets.{has, union_of, over}
 use Rattle.relation.specs.Composition.{rows, table}
 use Rattle.relation.specs.Lent.{listed}
-use Rattle.relation.proofs.compositions.Statement.{statement}
-use Rattle.relation.proofs.compositions.Tie as tie
+use Rattle.relation.proofs.compositions.Goals as goal
 
-returns : tie.Need-returns
+pub returns : goal.returns
 unfolding listed tabled over union_of has table rows
 returns c = refl
-
-pub compositions_spec : {M : Type 1} → statement M
-compositions_spec = tie.close (tie.spec returns)

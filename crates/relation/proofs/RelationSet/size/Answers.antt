@@ -3,11 +3,10 @@ use Prim.Native.Nat.{ℕ}
 use mathlib.Core.Bool.{Bool}
 use lib.Dec.{T, eqb, eqb→eq}
 use lib.Count.{ones, ones_in}
-use borrow.Author.Rules.{rules}
 use Rattle.relation.specs.Sets.{has, members_below, size}
 use Rattle.relation.proofs.Tests.{all, all_at}
-use Rattle.relation.proofs.RelationSet.size.Statement.{statement}
-use Rattle.relation.proofs.RelationSet.size.Tie as tie
+use Rattle.std.proofs.Common.{rules}
+use Rattle.relation.proofs.RelationSet.size.Goals as goal
 
 counted : ℕ → Bool
 counted s = eqb (ones s) (size s)
@@ -16,11 +15,8 @@ tested : T (all 256 counted)
 unfolding all counted ones ones_in size members_below has
 tested = tt
 
-returns : tie.Need-returns
+pub returns : goal.returns
 unfolding counted
 returns c =
-    eqb→eq (ones c.before.args.self.0) (size c.before.args.self.0)
-    (all_at 256 counted tested c.before.args.self.0 (search rules))
-
-pub size_spec : {M : Type 1} → statement M
-size_spec = tie.close (tie.spec returns)
+    eqb→eq (ones c.args.self.0) (size c.args.self.0)
+    (all_at 256 counted tested c.args.self.0 (search rules))
