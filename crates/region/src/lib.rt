@@ -1,18 +1,20 @@
 // Regions by identifier and by place. An identifier is the number that a scene's author gives a region; a place is the
 // region's row and column in the matrix. They are types of their own: `lookup` is the only passage from an identifier to a place,
 // and `identifier_at` the only way back.
+#![tactic(auto)]
+
 ghost use Rattle.std.specs.Prelude.{◌≡◌};
 ghost use Rattle.region.specs.Lookup.{lookup_of};
 ghost use Rattle.region.specs.Named.{identifier_at};
 
-#[derive(Drop)]
+#[derive(Clone, Copy)]
 pub struct Identifier(pub u32);
 
-#[derive(Drop)]
+#[derive(Clone, Copy)]
 pub struct Place(pub usize);
 
 // What looking an identifier up finds.
-#[derive(Drop)]
+#[derive(Clone, Copy)]
 pub enum Found {
     At(Place),
     Nothing,
