@@ -1,4 +1,6 @@
 // What every call answers: the document's five numbers, and the 20 bytes in which they cross to a host in C.
+#![tactic(auto)]
+
 ghost use Rattle.std.specs.Prelude.{◌≡◌, cond, ◌%◌};
 ghost use Rattle.answer.specs.Answer.{answer};
 ghost use Rattle.answer.specs.Told.{told};
@@ -7,7 +9,7 @@ ghost use Rattle.answer.specs.Bytes.{answer_bytes, fits, Answers};
 use lists::put_number;
 
 // The refusal number or 0, three places (unused ones 0), and a count.
-#[derive(Drop)]
+#[derive(Clone, Copy)]
 pub struct Numbers {
     pub number: u32,
     pub first: usize,
