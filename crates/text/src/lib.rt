@@ -1,4 +1,6 @@
 // Text in a lent buffer: words and decimal numbers, each put at an offset if there is room for all of it.
+#![tactic(auto)]
+
 ghost use Rattle.text.specs.Decimal.{decimal};
 ghost use Rattle.text.specs.Put.{Puts};
 
