@@ -14,7 +14,7 @@ use borrow.Author.Tests.{eqb-true, eqb-false, eq-eqb, ne_eqb, le-leb, lt-leb, lt
 use Rattle.lists.specs.Least.{least}
 use Rattle.lists.proofs.Splits.{split_lt}
 use Rattle.lists.proofs.LeastLaws.{least-is}
-use Rattle.lists.proofs.TabledLaws.{length-tabled, get_d_tabled}
+use Rattle.lists.proofs.TabledLaws.{length-tabled, get_or-tabled}
 use Rattle.relation.specs.Sets.{intersect}
 use Rattle.matrix.specs.Square.{in_range, has_square}
 use Rattle.matrix.specs.Cells.{cell, row, column, grid, first_empty, first_change, cell_or_empty, narrowed_cells}
@@ -56,7 +56,7 @@ length-grid n f = length-tabled (n * n) 0 (λ p. f (row n p) (column n p))
 pub at_place : (n : ℕ) (f : ℕ → ℕ → ℕ) (p : ℕ) → p < n * n → get_or (grid n f) p 0 ≡ f (row n p) (column n p)
 unfolding grid
 at_place n f p h =
-    get_d_tabled (n * n) 0 (λ q. f (row n q) (column n q)) p h ∙ ap (λ (q : ℕ). f (row n q) (column n q)) (zero-add p)
+    get_or-tabled (n * n) 0 (λ q. f (row n q) (column n q)) p h ∙ ap (λ (q : ℕ). f (row n q) (column n q)) (zero-add p)
 
 pub cell-grid : (n : ℕ) (f : ℕ → ℕ → ℕ) (i j : ℕ) → i < n → j < n → cell n (grid n f) i j ≡ f i j
 cell-grid n f i j hi hj =

@@ -1,4 +1,6 @@
 // Matrices of relation sets as lists of cells, row by row: definitions, their laws, and what every layer does to cells alike.
+#![tactic(auto)]
+
 ghost use Rattle.std.specs.Prelude.{◌≡◌, min, length, replicate};
 ghost use Rattle.matrix.specs.Square.{in_range};
 ghost use Rattle.matrix.specs.Cells.{first_empty, first_change, cell_or_empty, narrowed_cells};
