@@ -1,5 +1,5 @@
 -- The list of f 0, .., f (n - 1): its length, its elements, and how a loop that stores one after the other makes it.
-use Prim.Native.Nat.{ℕ, zero, suc, ◌+◌, ◌-◌, ◌<◌, ◌≤◌}
+use Prim.Native.Nat.{ℕ, ◌+◌, ◌-◌, ◌<◌, ◌≤◌}
 use mathlib.Core.Path.{◌≡◌, refl, sym, ap, ap₂, ◌∙◌}
 use mathlib.Core.List.{List, [], ◌∷◌, ◌++◌, append_assoc}
 use native.Mathlib.Nat.{zero-add, add-zero}
@@ -8,7 +8,7 @@ use native.Mathlib.Omega.{arith}
 use lib.ListN.{length, get_or, take, set, length-append, get_or-append}
 use lib.Seq.{ext_get_or, take_all, take_at, take-suc-set, get_or-append-add}
 use Rattle.lists.specs.Tabled.{tabled}
-use Rattle.lists.proofs.TabledLaws.{length-tabled, get_d_tabled}
+use Rattle.lists.proofs.TabledLaws.{length-tabled, get_or-tabled}
 use Rattle.lists.proofs.Splits.{split_lt}
 use Rattle.lanes.specs.Lists.{list_of}
 
@@ -16,7 +16,7 @@ pub list_length : (n : ℕ) (f : ℕ → ℕ) → length (list_of n f) ≡ n
 list_length n f = length-tabled n 0 f
 
 pub list_at : (n : ℕ) (f : ℕ → ℕ) (i : ℕ) → i < n → get_or (list_of n f) i 0 ≡ f i
-list_at n f i h = get_d_tabled n 0 f i h ∙ ap f (zero-add i)
+list_at n f i h = get_or-tabled n 0 f i h ∙ ap f (zero-add i)
 
 pub list_same : (n : ℕ) (f g : ℕ → ℕ) → ((i : ℕ) → i < n → f i ≡ g i) → list_of n f ≡ list_of n g
 list_same n f g e =

@@ -1,5 +1,5 @@
 -- No second answer meets a public call's contract. No call writes what it is lent, so its answer is all that it leaves.
-use mathlib.Core.Path.{◌≡◌, sym, ◌∙◌}
+use mathlib.Core.Path.{sym, ◌∙◌}
 use Rattle.relation.proofs.Unique.{OneAnswer}
 use Rattle.lanes.proofs.along.composed.Kinds as composing
 use Rattle.lanes.proofs.along.composed.Reads.{Post as Composes}

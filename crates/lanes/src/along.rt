@@ -6,7 +6,7 @@ ghost use Rattle.lanes.specs.Words.{wired};
 ghost use Rattle.lanes.specs.Inner.{words_of, fields_of};
 
 // The eight words as fields, which are read with no index.
-#[derive(Drop)]
+#[derive(Clone, Copy)]
 struct Eight(u64, u64, u64, u64, u64, u64, u64, u64);
 
 fn apart(w: [u64; 8]) -> Eight

@@ -5,12 +5,8 @@ use Rattle.relation.specs.Sets.{has}
 use Rattle.relation.specs.Composition.{rows, table}
 use Rattle.lists.specs.Tabled.{tabled}
 use Rattle.lanes.proofs.Unions.{union_where, wired-to}
-use Rattle.lanes.proofs.along.inside.Statement.{statement}
-use Rattle.lanes.proofs.along.inside.Tie as tie
+use Rattle.lanes.proofs.along.inside.Goals as goal
 
-returns : tie.Need-returns
+pub returns : goal.returns
 unfolding tabled union_where has table rows
 returns c = sym (wired-to inside _)
-
-pub inside_spec : {M : Type 1} → statement M
-inside_spec = tie.close (tie.spec returns)

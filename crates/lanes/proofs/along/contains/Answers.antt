@@ -5,12 +5,8 @@ use Rattle.relation.specs.Sets.{has}
 use Rattle.relation.specs.Composition.{rows, table}
 use Rattle.lists.specs.Tabled.{tabled}
 use Rattle.lanes.proofs.Unions.{union_where, wired-to}
-use Rattle.lanes.proofs.along.contains.Statement.{statement}
-use Rattle.lanes.proofs.along.contains.Tie as tie
+use Rattle.lanes.proofs.along.contains.Goals as goal
 
-returns : tie.Need-returns
+pub returns : goal.returns
 unfolding tabled union_where has table rows
 returns c = sym (wired-to contains _)
-
-pub contains_spec : {M : Type 1} → statement M
-contains_spec = tie.close (tie.spec returns)

@@ -5,12 +5,8 @@ use Rattle.relation.specs.Sets.{has}
 use Rattle.relation.specs.Composition.{rows, table}
 use Rattle.lists.specs.Tabled.{tabled}
 use Rattle.lanes.proofs.Unions.{union_where, wired-to}
-use Rattle.lanes.proofs.along.covered_by.Statement.{statement}
-use Rattle.lanes.proofs.along.covered_by.Tie as tie
+use Rattle.lanes.proofs.along.covered_by.Goals as goal
 
-returns : tie.Need-returns
+pub returns : goal.returns
 unfolding tabled union_where has table rows
 returns c = sym (wired-to covered_by _)
-
-pub covered_by_spec : {M : Type 1} → statement M
-covered_by_spec = tie.close (tie.spec returns)

@@ -5,12 +5,8 @@ use Rattle.relation.specs.Sets.{has}
 use Rattle.relation.specs.Composition.{rows, table}
 use Rattle.lists.specs.Tabled.{tabled}
 use Rattle.lanes.proofs.Unions.{union_where, wired-to}
-use Rattle.lanes.proofs.along.overlap.Statement.{statement}
-use Rattle.lanes.proofs.along.overlap.Tie as tie
+use Rattle.lanes.proofs.along.overlap.Goals as goal
 
-returns : tie.Need-returns
+pub returns : goal.returns
 unfolding tabled union_where has table rows
 returns c = sym (wired-to overlap _)
-
-pub overlap_spec : {M : Type 1} → statement M
-overlap_spec = tie.close (tie.spec returns)
