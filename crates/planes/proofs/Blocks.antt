@@ -1,7 +1,6 @@
 -- Lanes by block: the set of a lane, planes by their lanes, and eight words by the sets of their lanes.
-use Prim.Native.Nat.{ℕ, ◌+◌, ◌*◌, ◌/◌, ◌%◌, ◌^◌, ◌<◌, ◌≤◌}
-use mathlib.Core.Path.{◌≡◌, refl, sym, ap, ap₂, ◌∙◌}
-use mathlib.Core.Bool.{Bool, false}
+use Prim.Native.Nat.{ℕ, ◌+◌, ◌*◌, ◌/◌, ◌%◌, ◌^◌, ◌<◌}
+use mathlib.Core.Path.{◌≡◌, sym, ap, ap₂, ◌∙◌}
 use mathlib.Core.List.{List}
 use native.Mathlib.Decide.{dec_lt}
 use native.Mathlib.Nat.{le_refl}
@@ -10,10 +9,10 @@ use lib.ListN.{length, get_or}
 use lib.Seq.{ext_get_or}
 use Rattle.relation.specs.Sets.{has}
 use Rattle.relation.proofs.Member.{ext, ext_byte}
-use Rattle.lanes.specs.Lists.{list_of, mask_of}
+use Rattle.lanes.specs.Lists.{mask_of}
 use Rattle.lanes.specs.Words.{set_at}
 use Rattle.lanes.proofs.Lists.{list_at, list_length, list_same}
-use Rattle.lanes.proofs.Sets.{has_mask, mask_below, mask_same, has-set, set-byte, set_is}
+use Rattle.lanes.proofs.Sets.{has_mask, mask_below, mask_same, has-set, set_is}
 use Rattle.lanes.proofs.Shifts.{has_beyond}
 use Rattle.planes.specs.Planes.{block_of, lane, sets_of, planes_of}
 use Rattle.planes.specs.Inner.{lanes_of}

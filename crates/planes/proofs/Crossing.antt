@@ -1,5 +1,5 @@
 -- Between cells and planes: a row of cells is a block, and a block a row of cells; the loops that cross row by row.
-use Prim.Native.Nat.{ℕ, ◌+◌, ◌*◌, ◌-◌, ◌/◌, ◌<◌, ◌≤◌}
+use Prim.Native.Nat.{ℕ, ◌+◌, ◌*◌, ◌/◌, ◌<◌, ◌≤◌}
 use mathlib.Core.Path.{◌≡◌, refl, sym, ap, ap₂, ◌∙◌}
 use mathlib.Core.Bool.{Bool, true, false, cond, ◌&&◌, true≢false}
 use mathlib.Core.List.{List}
@@ -9,20 +9,20 @@ use borrow.Author.Tests.{lt-ltb, le-ltb, leb-true, eqb-true}
 use lib.Dec.{eqb, leb, ltb}
 use borrow.Rule.Slice.PartMut.{put_mid}
 use lib.ListN.{length, get_or, take, drop, length-take, get_or-eq_default}
-use lib.Seq.{length-take-le, get_or-take, get_or-drop}
+use lib.Seq.{get_or-take, get_or-drop}
 use Rattle.lists.proofs.Splits.{split_lt}
 use Rattle.relation.specs.Sets.{has, universal}
-use Rattle.matrix.specs.Cells.{cell, row, column, grid}
+use Rattle.matrix.specs.Cells.{cell, column}
 use Rattle.lists.specs.Laid.{laid}
 use Rattle.lists.proofs.LaidLaws.{laid_none}
 use Rattle.matrix.proofs.CellLaws.{place_lt, cell-grid, length-grid}
-use Rattle.lanes.specs.Lists.{list_of, mask_of}
+use Rattle.lanes.specs.Lists.{list_of}
 use Rattle.lanes.specs.Words.{set_at}
 use Rattle.lanes.proofs.Lists.{list_at, list_length, list_same}
 use Rattle.lanes.proofs.Sets.{mask_same}
 use Rattle.rows.specs.Rows.{row_words, row_cells, row_after}
 use Rattle.rows.proofs.Placing.{read_inside, row-served}
-use Rattle.planes.specs.Planes.{block_of, lane, planes_of, lane_cell, matrix_planes, planes_matrix}
+use Rattle.planes.specs.Planes.{block_of, lane, lane_cell, matrix_planes, planes_matrix}
 use Rattle.planes.specs.Calls.{serves_cells, taken, given}
 use Rattle.planes.specs.Inner.{lanes_of, Square}
 use Rattle.planes.proofs.Laying.{part_laid, put_back}

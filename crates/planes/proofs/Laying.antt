@@ -1,10 +1,8 @@
 -- Eight words laid into an area, block by block.
-use Prim.Native.Nat.{ℕ, suc, ◌+◌, ◌*◌, ◌-◌, ◌/◌, ◌%◌, ◌<◌, ◌≤◌}
-use mathlib.Core.Path.{◌≡◌, refl, sym, ap, ap₂, ◌∙◌, subst}
-use mathlib.Core.Logic.{⊎_elim}
+use Prim.Native.Nat.{ℕ, ◌+◌, ◌*◌, ◌-◌, ◌/◌, ◌<◌, ◌≤◌}
+use mathlib.Core.Path.{◌≡◌, sym, ap, ap₂, ◌∙◌}
 use mathlib.Core.Bool.{Bool, true, false, cond}
 use mathlib.Core.List.{List, ◌++◌, append_assoc}
-use native.Mathlib.Nat.{not-suc-le-zero, le_of_suc-le-suc, eq-or-lt_of_le}
 use native.Mathlib.Numerals.{add-one}
 use native.Mathlib.Omega.{arith}
 use borrow.Author.Tests.{lt-ltb, le-ltb}
@@ -13,8 +11,7 @@ use borrow.Rule.Slice.PartMut.{put_mid}
 use lib.Seq.{ext_get_or, take_all, drop-drop, paste, paste-suc, length-paste, length_paste_head, length-take-le, get_or-append-add, get_or-take, get_or-drop}
 use Rattle.lists.proofs.Splits.{split_lt}
 use Rattle.lists.specs.Laid.{laid}
-use Rattle.lists.proofs.LaidLaws.{length-laid, get_d_laid_in, get_d_laid_past}
-use Rattle.lanes.specs.Lists.{list_of}
+use Rattle.lists.proofs.LaidLaws.{length-laid, get_or-laid_in, get_or-laid_past}
 use Rattle.lanes.proofs.Lists.{list_length, list_at}
 use Rattle.planes.specs.Planes.{block_of}
 use Rattle.planes.specs.Calls.{has_block, loaded, stored}
@@ -62,20 +59,20 @@ part_laid filled before area w at n h same long e a =
     split_lt q at
     (λ u.
     laid-before area at w n (omega arith) long q u ∙ ap (λ (x : List ℕ). get_or x q 0) a
-    ∙ get_d_laid_in at filled before q u (omega arith)
-    ∙ sym (get_d_laid_in (at + n) filled before q (omega arith) (omega arith)))
+    ∙ get_or-laid_in at filled before q u (omega arith)
+    ∙ sym (get_or-laid_in (at + n) filled before q (omega arith) (omega arith)))
     (λ u. split_lt q (at + n)
     (λ v.
     let place : at + (q - at) ≡ q = omega arith in
     ap (λ (x : ℕ). get_or (paste area at w n) x 0) (sym place) ∙ laid_in area at w n (omega arith) long (q - at) (omega arith)
     ∙ e (q - at) (omega arith) ∙ ap (λ (x : ℕ). get_or filled x 0) place
-    ∙ sym (get_d_laid_in (at + n) filled before q (omega arith) (omega arith)))
+    ∙ sym (get_or-laid_in (at + n) filled before q (omega arith) (omega arith)))
     (λ v.
     let place : at + n + (q - (at + n)) ≡ q = omega arith in
     ap (λ (x : ℕ). get_or (paste area at w n) x 0) (sym place) ∙ laid_after area at w n (omega arith) long (q - (at + n))
     ∙ ap (λ (x : ℕ). get_or area x 0) place ∙ ap (λ (x : List ℕ). get_or x q 0) a
-    ∙ get_d_laid_past at filled before q (omega arith) (omega arith)
-    ∙ sym (get_d_laid_past (at + n) filled before q (omega arith) (omega arith)))))
+    ∙ get_or-laid_past at filled before q (omega arith) (omega arith)
+    ∙ sym (get_or-laid_past (at + n) filled before q (omega arith) (omega arith)))))
 
 -- block b behind the blocks before it
 pub block_laid : (planes before area w : List ℕ) (b : ℕ) → 8 * b + 8 ≤ length planes → length before ≡ length planes

@@ -1,4 +1,6 @@
 // Matrices of up to 64 regions as planes, eight words to a row: cells into planes and back, and the blocks of planes.
+#![tactic(auto)]
+
 mod cells;
 mod words;
 
