@@ -8,7 +8,7 @@ use native.Mathlib.Omega.{arith}
 use lib.Bits.{bit_and, and_le_l}
 use lib.Count.{count_trailing_zeros}
 use lib.Dec.{T, eqb, eqb→eq, eqb_refl}
-use lib.ListN.{length, take, drop}
+use lib.ListN.{take, drop}
 use lib.Pow.{pow-lt}
 use lib.Seq.{paste}
 use borrow.Rule.Slice.PartMut.{put_mid}
@@ -25,7 +25,7 @@ use Rattle.lanes.proofs.Digits.{has_other}
 use Rattle.lanes.proofs.LowestBit.{Lowest, lowest_facts, Left, visited_one}
 use Rattle.planes.specs.Planes.{block_of}
 use Rattle.round.specs.Onward.{wired_all}
-use Rattle.round.specs.Inner.{lanes_with_member, lanes_with_all, spread, narrowed, Wired, Room, part_of, Chosen}
+use Rattle.round.specs.Inner.{lanes_with_member, lanes_with_all, spread, narrowed, Room, part_of, Chosen}
 use Rattle.planes.proofs.Laying.{put_back}
 use Rattle.round.proofs.Wires.{all_wired}
 use Rattle.round.proofs.Lanes.{has_members, has_all}

@@ -6,15 +6,14 @@ use mathlib.Core.List.{List}
 use native.Mathlib.Nat.{le_refl, le_trans, lt_of_le_of_lt}
 use native.Mathlib.Omega.{arith}
 use lib.Dec.{eqb}
-use lib.ListN.{length, get_or, take, drop, length-take, length-drop}
-use lib.Seq.{paste, length-paste, length-take-le, get_or-take, get_or-drop}
+use lib.ListN.{length, get_or, drop, length-drop}
+use lib.Seq.{length-paste, length-take-le, get_or-take, get_or-drop}
 use Rattle.lists.proofs.Splits.{split_lt, by_test}
 use Rattle.relation.specs.Sets.{has, universal, intersect}
 use Rattle.relation.specs.Composition.{compose}
-use Rattle.matrix.specs.Cells.{cell, row, column}
+use Rattle.matrix.specs.Cells.{cell, column}
 use Rattle.lanes.specs.Lists.{some}
 use Rattle.lanes.specs.Words.{set_at}
-use Rattle.lanes.proofs.Lists.{list_at, list_length}
 use Rattle.lanes.proofs.Shifts.{has_beyond}
 use Rattle.lanes.proofs.InTurn.{upto_keeps, visited_upto}
 use Rattle.planes.specs.Planes.{lane, sets_of}
@@ -22,7 +21,7 @@ use Rattle.round.specs.Round.{through_live, known, new_set}
 use Rattle.planes.specs.Planes.{block_of}
 use Rattle.round.specs.Onward.{wired_all, onward_of}
 use Rattle.planes.specs.Inner.{lanes_of}
-use Rattle.round.specs.Inner.{spread, narrowed, Wired, Room, part_of, block_through, Chosen}
+use Rattle.round.specs.Inner.{spread, Wired, Room, part_of, block_through, Chosen}
 use Rattle.planes.proofs.Laying.{laid-before, laid_in}
 use Rattle.round.proofs.Wires.{all_wired}
 use Rattle.round.proofs.Lanes.{set-narrowed, narrowed-length, narrowed_le, set-spread}

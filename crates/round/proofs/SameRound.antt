@@ -8,14 +8,14 @@ use mathlib.Core.List.{List}
 use native.Mathlib.Decide.{dec_lt}
 use native.Mathlib.Nat.{le_refl}
 use native.Mathlib.Omega.{arith}
-use borrow.Author.Tests.{lt-ltb, le-ltb, eqb-true, eq-eqb, ne_eqb, not-false}
+use borrow.Author.Tests.{lt-ltb, le-ltb, eqb-true, eq-eqb, not-false}
 use lib.Bits.{and_self}
 use lib.Dec.{eqb, ltb, lit<}
 use lib.ListN.{length, get_or}
 use Rattle.lists.specs.Least.{least}
-use Rattle.lists.proofs.Splits.{split_lt, split_eq, by_test}
+use Rattle.lists.proofs.Splits.{split_lt, by_test}
 use Rattle.lists.proofs.LeastLaws.{least-is, least-here}
-use Rattle.relation.specs.Sets.{has, empty, universal, intersect}
+use Rattle.relation.specs.Sets.{has, universal, intersect}
 use Rattle.relation.specs.Composition.{compose}
 use Rattle.relation.proofs.Member.{ext}
 use Rattle.relation.proofs.CompositionLaws.{compose_universal_right}
@@ -23,14 +23,14 @@ use Rattle.matrix.specs.Cells.{cell, row, column, first_empty, first_change}
 use Rattle.lists.specs.Laid.{laid}
 use Rattle.matrix.proofs.CellLaws.{grid-same, grid-cells, place_lt, place-back, row_lt, column_lt, place_above, none-empty, no_empty, no_change}
 use Rattle.refinement.specs.Round.{round}
-use Rattle.refinement.specs.Plain.{Bytes, Filled, Plain}
+use Rattle.refinement.specs.Plain.{Bytes, Plain}
 use Rattle.refinement.proofs.Stages.{round-bytes}
-use Rattle.lanes.specs.Lists.{mask_of, some}
+use Rattle.lanes.specs.Lists.{some}
 use Rattle.lanes.proofs.Unions.{empty-has}
 use Rattle.lanes.proofs.Sets.{has_mask, mask_below}
 use Rattle.lanes.proofs.Shifts.{has_beyond}
 use Rattle.lanes.proofs.Digits.{all_ones}
-use Rattle.planes.specs.Planes.{lane, sets_of, planes_of, lane_cell, matrix_planes, planes_matrix}
+use Rattle.planes.specs.Planes.{lane, sets_of, lane_cell, matrix_planes, planes_matrix}
 use Rattle.round.specs.Round.{empty_lane, through_live, known, new_set, round_planes, changed_columns}
 use Rattle.round.specs.Calls.{came_of, round_leaves}
 use Rattle.planes.proofs.Blocks.{sets_at, length-sets, lane_planes, length_planes, planes_same}

@@ -3,7 +3,6 @@ use Prim.Native.Nat.{ℕ, ◌+◌, ◌*◌, ◌-◌, ◌/◌, ◌^◌, ◌<◌, 
 use mathlib.Core.Path.{◌≡◌, refl, sym, ap, ◌∙◌, subst}
 use mathlib.Core.Bool.{Bool, true, false, cond, ◌&&◌, true≢false, and-true}
 use mathlib.Core.List.{List}
-use native.Mathlib.Nat.{le_refl}
 use native.Mathlib.Omega.{arith}
 use borrow.Author.Tests.{leb-true, eqb-true}
 use lib.Dec.{eqb, leb, lit<}
@@ -20,7 +19,7 @@ use Rattle.round.specs.Round.{known, new_set, round_planes}
 use Rattle.planes.specs.Planes.{block_of}
 use Rattle.round.specs.Onward.{onward_of}
 use Rattle.round.specs.Calls.{serves_round, below, came_of, round_leaves, Rounds}
-use Rattle.round.specs.Inner.{Room, Ready, Wiring, Blocks, Made, part_of, Wired}
+use Rattle.round.specs.Inner.{Room, Ready, Wiring, Made, part_of, Wired}
 use Rattle.planes.proofs.Crossing.{both_true}
 use Rattle.planes.proofs.Blocks.{planes_same}
 use Rattle.round.proofs.LivePlaces.{live_same}

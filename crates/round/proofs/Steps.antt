@@ -1,23 +1,20 @@
 -- What the calls about planes make of a matrix of n regions: its planes, the matrix back, and a round as a step of the refinement.
-use mathlib.Core.Path.{◌≡◌, refl, sym, ap, ap₂, ◌∙◌, subst}
-use mathlib.Core.Bool.{Bool, true, cond, ◌&&◌}
+use mathlib.Core.Path.{◌≡◌, sym, ap, ap₂, ◌∙◌, subst}
+use mathlib.Core.Bool.{Bool, true, cond}
 use mathlib.Core.List.{List}
 use Prim.Native.Nat.{ℕ, ◌+◌, ◌*◌, ◌<◌, ◌≤◌}
-use native.Mathlib.Omega.{arith}
 use borrow.Author.Tests.{le-leb, eq-eqb}
-use lib.Dec.{eqb, leb}
 use lib.ListN.{length}
 use Rattle.region.specs.Lookup.{place}
 use Rattle.relation.specs.Sets.{has}
 use Rattle.matrix.specs.Square.{Square}
-use Rattle.matrix.specs.Cells.{row, column, first_empty}
 use Rattle.matrix.proofs.CellLaws.{place_lt, place_div, place-mod}
 use Rattle.refinement.specs.declared.Step.TheVariants.{Empty, Same, Changed}
 use Rattle.refinement.specs.Round.{round, ran_out}
 use Rattle.refinement.specs.Step.{step_of}
 use Rattle.refinement.proofs.Stepping.{step_empty, step_same, step_changed}
 use Rattle.round.specs.declared.rounds.Came.{Came}
-use Rattle.planes.specs.Planes.{matrix_planes, planes_matrix, planes_of, lane_cell}
+use Rattle.planes.specs.Planes.{matrix_planes, planes_matrix, lane_cell}
 use Rattle.planes.specs.Calls.{serves_cells, taken, given}
 use Rattle.round.specs.Calls.{serves_round, came_of, round_leaves, Rounds}
 use Rattle.planes.proofs.Blocks.{length_planes}

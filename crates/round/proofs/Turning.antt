@@ -1,39 +1,39 @@
 -- The loop that makes the blocks of a round: its invariant, a turn of it, and both of its ends.
-use Prim.Native.Nat.{ℕ, suc, ◌+◌, ◌*◌, ◌-◌, ◌/◌, ◌%◌, ◌^◌, ◌<◌, ◌≤◌}
+use Prim.Native.Nat.{ℕ, ◌+◌, ◌*◌, ◌-◌, ◌/◌, ◌%◌, ◌^◌, ◌<◌, ◌≤◌}
 use mathlib.Core.Path.{◌≡◌, refl, sym, ap, ap₂, ◌∙◌, subst}
 use mathlib.Core.Bool.{Bool, true, false, cond, not, ◌||◌}
 use mathlib.Core.List.{List, ◌++◌, append-nil}
 use native.Mathlib.Decide.{dec_lt}
-use native.Mathlib.Nat.{le_refl, add-zero}
+use native.Mathlib.Nat.{le_refl}
 use native.Mathlib.Numerals.{add-one}
 use native.Mathlib.Omega.{arith}
 use borrow.Author.Tests.{lt-ltb, le-ltb}
 use lib.Bits.{bit_or, or_lt}
 use lib.Dec.{eqb, ltb}
 use lib.ListN.{length, get_or, drop_of_length-le}
-use lib.Seq.{paste, length-paste, take_all}
+use lib.Seq.{paste, take_all}
 use Rattle.lists.specs.Least.{least}
 use Rattle.lists.proofs.Splits.{split_lt}
 use Rattle.lists.proofs.LeastLaws.{least-is, least-here, least_gone}
-use Rattle.relation.specs.Sets.{has, empty}
+use Rattle.relation.specs.Sets.{has}
 use Rattle.relation.proofs.Member.{ext, has-unite}
-use Rattle.matrix.specs.Cells.{cell, row, column, first_empty}
+use Rattle.matrix.specs.Cells.{cell, first_empty}
 use Rattle.lists.specs.Laid.{laid}
 use Rattle.lists.proofs.LaidLaws.{laid_none, laid_all, length-laid}
 use Rattle.lanes.specs.Lists.{mask_of, some}
 use Rattle.lanes.specs.Words.{set_at}
-use Rattle.lanes.proofs.Unions.{empty-has, some_same}
+use Rattle.lanes.proofs.Unions.{empty-has}
 use Rattle.lanes.proofs.Sets.{has_mask, mask_below}
 use Rattle.lanes.proofs.Shifts.{has_beyond}
 use Rattle.round.specs.declared.rounds.Came.{Came}
-use Rattle.planes.specs.Planes.{lane, sets_of, planes_of}
+use Rattle.planes.specs.Planes.{sets_of}
 use Rattle.round.specs.Round.{empty_lane, new_set, round_planes, changed_columns}
 use Rattle.planes.specs.Planes.{block_of}
 use Rattle.round.specs.Calls.{came_of, round_leaves}
 use Rattle.round.specs.Inner.{lanes_that_differ, block_through, Chosen, Room, Ready, Wiring, Blocks}
 use Rattle.planes.proofs.Laying.{block_laid}
 use Rattle.round.proofs.Lanes.{has_differing}
-use Rattle.planes.proofs.Blocks.{block_length, set_block, sets_at, length-sets, length_planes, block_planes}
+use Rattle.planes.proofs.Blocks.{set_block, sets_at, length-sets, length_planes, block_planes}
 use Rattle.round.proofs.Rounding.{chosen_live, cell_set, block_made}
 
 -- the sets that the round makes

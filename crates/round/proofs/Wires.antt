@@ -7,7 +7,6 @@ use native.Mathlib.Nat.{not-suc-le-zero, le_of_suc-le-suc, eq-or-lt_of_le}
 use native.Mathlib.Omega.{arith}
 use lib.ListN.{length, get_or}
 use lib.Seq.{ext_get_or, paste, length-paste}
-use Rattle.lanes.specs.Lists.{list_of}
 use Rattle.lanes.specs.Words.{wired}
 use Rattle.lanes.proofs.Lists.{list_length, list_at}
 use Rattle.lanes.proofs.Wiring.{wired-length}

@@ -1,5 +1,5 @@
 -- What a round keeps beside the planes: for each live region, what every relation gives with the sets of its row.
-use Rattle.std.specs.Prelude.{ℕ, ◌+◌, ◌*◌, ◌/◌, ◌%◌, List, get_or}
+use Rattle.std.specs.Prelude.{ℕ, ◌*◌, ◌/◌, ◌%◌, List, get_or}
 use Rattle.std.proofs.Math.Seq.{paste}
 use Rattle.lanes.specs.Lists.{list_of}
 use Rattle.lanes.specs.Words.{wired}

@@ -1,5 +1,5 @@
 -- A round through some of the regions, for any matrix and any regions: from the old cell, through those regions that are live.
-use Rattle.std.specs.Prelude.{ℕ, zero, suc, ◌+◌, ◌*◌, ◌/◌, ◌%◌, Bool, cond, not, ◌&&◌, List, eqb, length}
+use Rattle.std.specs.Prelude.{ℕ, zero, suc, ◌+◌, ◌*◌, ◌/◌, Bool, cond, not, ◌&&◌, List, eqb, length}
 use Rattle.relation.specs.Sets.{has, universal, intersect}
 use Rattle.relation.specs.Composition.{compose}
 use Rattle.matrix.specs.Cells.{cell, row, column, first_empty}

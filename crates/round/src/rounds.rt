@@ -9,7 +9,7 @@ use crate::words::{differing, load, store};
 
 // What a round came to: the row and the column of the first empty set in row order, the row past the last if there is none; and the
 // columns that changed, which are the live regions of the next round.
-#[derive(Drop)]
+#[derive(Clone, Copy)]
 pub struct Came {
     pub row: usize,
     pub column: usize,
