@@ -2,31 +2,26 @@
 use mathlib.Core.Path.{◌≡◌, refl, sym, ap, ◌∙◌, subst}
 use mathlib.Core.Bool.{true}
 use mathlib.Core.List.{List}
-use Prim.Native.Nat.{ℕ, zero, suc, ◌*◌, ◌<◌, ◌≤◌}
+use Prim.Native.Nat.{ℕ, zero, suc, ◌*◌, ◌≤◌}
 use lib.ListN.{length, take, replicate, length-replicate}
 use lib.Seq.{length-take-le}
 use native.Mathlib.Nat.{zero-lt-suc}
 use native.Mathlib.Omega.{arith}
-use Rattle.lists.specs.Laid.{laid}
 use Rattle.lists.proofs.LaidLaws.{laid_all}
-use Rattle.answer.specs.Answer.{answer}
-use Rattle.answer.specs.Ending.{refused}
 use Rattle.region.specs.Lookup.{place}
 use Rattle.matrix.specs.Square.{Square}
 use Rattle.matrix.proofs.CellLaws.{length-grid}
-use Rattle.planes.specs.Planes.{planes_matrix, lane}
+use Rattle.planes.specs.Planes.{planes_matrix}
 use Rattle.refinement.specs.Round.{ran_out}
 use Rattle.refinement.specs.Refine.{rounds}
 use Rattle.refinement.specs.Run.{is_plain, after_rounds}
 use Rattle.network.specs.declared.Area.{Area}
 use Rattle.network.specs.declared.Area.TheVariants.{First, Second}
 use Rattle.network.specs.declared.Verdict.{Verdict}
-use Rattle.network.specs.declared.Verdict.TheVariants.{Accepted, Refused, Unfinished}
-use Rattle.network.specs.declared.Contradiction.TheVariants.{Triple}
+use Rattle.network.specs.declared.Verdict.TheVariants.{Unfinished}
 use Rattle.network.specs.declared.turning.Ended.{Ended}
 use Rattle.network.specs.declared.turning.Ended.TheVariants.{Empty, Same, UsedUp}
 use Rattle.network.specs.Areas.{other, chosen, holds}
-use Rattle.network.specs.Ran.{round_before}
 use Rattle.network.specs.Inner.{Startable, EndsUsedUp, Ends, Placed, Shares, Stops, Leaves, Meets}
 use Rattle.network.proofs.Endings.{meets-accepted, meets_refused, meets_unfinished}
 

@@ -1,4 +1,6 @@
 // The refinement of a matrix of relation sets, whole or a few rounds at a time, and the network that it hands back.
+#![tactic(auto)]
+
 mod areas;
 mod emptied;
 mod leaving;
@@ -16,7 +18,7 @@ ghost use Rattle.network.specs.Handed.{Handed};
 use region::Place;
 
 // Where the sets run empty: at a region, at a pair, or along a triple.
-#[derive(Drop)]
+#[derive(Clone, Copy)]
 pub enum Contradiction {
     Region(Place),
     Pair(Place, Place),
@@ -24,13 +26,13 @@ pub enum Contradiction {
 }
 
 // One of the two lent work areas.
-#[derive(Drop)]
+#[derive(Clone, Copy)]
 pub enum Area {
     First,
     Second,
 }
 
-#[derive(Drop)]
+#[derive(Clone, Copy)]
 pub enum Verdict {
     // Refined: the number of regions, how many rounds changed something, and the area that the confirming round wrote.
     Accepted {
@@ -54,7 +56,7 @@ pub enum Verdict {
 }
 
 // What preparation comes to.
-#[derive(Drop)]
+#[derive(Clone, Copy)]
 pub enum Start {
     // The first area holds what the rounds start from.
     Ready,

@@ -6,7 +6,7 @@ use planes::take;
 use round::round;
 
 // What some rounds came to, and how many of them changed something.
-#[derive(Drop)]
+#[derive(Clone, Copy)]
 pub(crate) enum Ended {
     // The round of this number left a set empty, first in row order here.
     Empty {

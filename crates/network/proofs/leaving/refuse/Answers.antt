@@ -1,0 +1,30 @@
+-- `leaving::refuse` meets its contract: the search is in the matrix that the planes hold.
+use mathlib.Core.Path.{sym, ap, ◌∙◌}
+use mathlib.Core.List.{List}
+use Prim.Native.Nat.{ℕ}
+use lib.ListN.{length, replicate}
+use Rattle.region.specs.Lookup.{place}
+use Rattle.refinement.specs.Round.{ran_out}
+use Rattle.round.proofs.Steps.{gives}
+use Rattle.network.specs.declared.Contradiction.TheVariants.{Triple}
+use Rattle.network.specs.declared.Verdict.TheVariants.{Refused}
+use Rattle.network.proofs.Left.{size_of}
+use Rattle.network.proofs.leaving.refuse.Goals as goal
+
+pub returns : goal.returns
+returns c =
+    let cleared = c in
+    let searched = cleared in
+    let given = searched in
+    let start = given in
+    let a = start.args in
+    let there = given.give.ensures ∙ gives start.requires.3 a.old.now start.requires.2 in
+    record {
+      told = ap (λ (k : ℕ). Refused (Triple (place a.row) (place k) (place a.column)) a.round)
+          (searched.ran_out-k.ensures ∙ ap (λ (m : List ℕ). ran_out a.n m a.row a.column) there);
+      cleared = record {
+        in_first = cleared.clear.ensures.in_first
+            ∙ ap (λ (l : ℕ). replicate l 0) (ap length there ∙ size_of a.n a.old.now ∙ sym start.requires.3.size);
+        in_second = cleared.clear.ensures.in_second;
+      };
+    }
