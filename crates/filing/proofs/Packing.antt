@@ -7,7 +7,7 @@ use native.Mathlib.Omega.{arith}
 use borrow.Author.Tests.{eq-eqb, ne_eqb, le-leb, lt-leb}
 use lib.ListN.{length, get_or, set}
 use Rattle.lists.proofs.Splits.{split_lt}
-use Rattle.lists.proofs.LaidLaws.{get_d_laid_past}
+use Rattle.lists.proofs.LaidLaws.{get_or-laid_past}
 use Rattle.lists.proofs.Filling.{Filling, filling_more}
 use Rattle.matrix.specs.Square.{most_regions}
 use Rattle.matrix.specs.Cells.{cell, row, column, grid}
@@ -88,7 +88,7 @@ module _ (n : ℕ) (before cells : List ℕ) (at : ℕ) (rows : Rows before n) (
       (λ l.
       packed_in n cells packing_rows at l
       ∙ rw w.so_far
-      (get_d_laid_past at (packed n before) before (row n at * most_regions + column n at) (source_le n at rows.few)
+      (get_or-laid_past at (packed n before) before (row n at * most_regions + column n at) (source_le n at rows.few)
       (omega (arith, w.within, length-packed n before rows)))
       ∙ sym (packed_in n before rows at l))
       (λ l. packed_past n cells packing_rows at l ∙ sym (packed_past n before rows at l))

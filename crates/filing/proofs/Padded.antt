@@ -8,10 +8,10 @@ use lib.Seq.{get_or-append-add, take_at}
 use Rattle.lists.proofs.Splits.{split_lt}
 use Rattle.filing.specs.Areas.{padded}
 
-get_d_zeros : (count k : ℕ) → get_or (replicate {A = ℕ} count 0) k 0 ≡ 0
-get_d_zeros zero k = refl
-get_d_zeros (suc count) zero = refl
-get_d_zeros (suc count) (suc k) = get_d_zeros count k
+get_or-zeros : (count k : ℕ) → get_or (replicate {A = ℕ} count 0) k 0 ≡ 0
+get_or-zeros zero k = refl
+get_or-zeros (suc count) zero = refl
+get_or-zeros (suc count) (suc k) = get_or-zeros count k
 
 module _ (size : ℕ) (l : List ℕ) where
   pub length-padded : length l ≤ size → length (padded size l) ≡ size
@@ -25,7 +25,7 @@ module _ (size : ℕ) (l : List ℕ) where
       let zeros : List ℕ = replicate (size - length l) 0 in
       let there : length l + (k - length l) ≡ k = omega arith in
       subst (λ (x : ℕ). get_or (l ++ zeros) x 0 ≡ 0) there
-      (get_or-append-add l zeros (k - length l) 0 ∙ get_d_zeros (size - length l) (k - length l))
+      (get_or-append-add l zeros (k - length l) 0 ∙ get_or-zeros (size - length l) (k - length l))
 
   -- no entry tells a padded list from the list
   pub padded-same : (k : ℕ) → get_or (padded size l) k 0 ≡ get_or l k 0

@@ -1,5 +1,7 @@
 // Filing what was said: which place an identifier names, and statements into cells. While it is not known how many regions there
 // will be, the cells stand in rows of 64. Every call is total.
+#![tactic(auto)]
+
 ghost use Rattle.std.specs.Prelude.{◌≡◌, ◌+◌, ◌*◌, ◌<◌, length, get_or, replicate, set, take};
 ghost use Rattle.filing.specs.Said.{naming, statement};
 ghost use Rattle.filing.specs.Places.{place_of};
@@ -17,6 +19,7 @@ pub const LENT_IDENTIFIERS: usize = 64;
 pub const LENT_CELLS: usize = 4096;
 
 // Whether the areas have these lengths; there is a mark for each cell.
+#[tactic(auto, unfolding(crate::specs::Areas::are_lent))]
 pub fn are_lent(identifiers: &[u32], cells: &[u8], marks: &[u16]) -> bool
     ensures { result ≡ are_lent (holding identifiers.now cells.now marks.now) }
 {
@@ -149,6 +152,7 @@ fn pack_rows(cells: &mut [u8], n: usize)
 }
 
 // Rows of 64 cells into n rows of n, and 0 behind them; cells that are not such rows are left as they were.
+#[tactic(auto, unfolding(crate::specs::Areas::packed))]
 pub fn pack(cells: &mut [u8], n: usize)
     ensures { cells.new ≡ packed n cells.old }
 {
