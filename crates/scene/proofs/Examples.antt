@@ -28,7 +28,8 @@ example_says =
     }
 
 pub example_accepted : read_scene (example 4) ≡ accepted_said example_says
-unfolding read_scene read_from record_at judged_region judged_statement judged_end length_of place_of lookup_of first_holding least least_from example example_says
+unfolding read_scene read_from record_at judged_region judged_statement judged_end length_of place_of lookup_of
+    first_holding least least_from example example_says
 example_accepted = refl
 
 pub example_cells_lem : cells_of starting_cell example_says ≡ 255 ∷ 8 ∷ 255 ∷ 255 ∷ 255 ∷ 8 ∷ 255 ∷ 255 ∷ 255 ∷ []
@@ -37,5 +38,6 @@ example_cells_lem = refl
 
 -- with the third identifier 9 as well, 9 is declared twice
 pub example_twice : read_scene (example 9) ≡ refused_at 7 10
-unfolding read_scene read_from record_at judged_region judged_statement judged_end length_of place_of lookup_of first_holding least least_from example
+unfolding read_scene read_from record_at judged_region judged_statement judged_end length_of place_of lookup_of
+    first_holding least least_from example
 example_twice = refl

@@ -10,7 +10,6 @@ use lib.ListN.{length, get_or, length-append, get_or-append}
 use borrow.Author.Tests.{eq-eqb, ne_eqb}
 use Rattle.region.specs.Lookup.{identifier}
 use Rattle.region.specs.declared.Place.{Place}
-use Rattle.region.specs.declared.Found.TheVariants.{At}
 use Rattle.lists.proofs.Splits.{split_eq, split_lt}
 use Rattle.filing.proofs.PlaceLaws.{place_found}
 use Rattle.filing.proofs.StatedLaws.{stated-none, stated_more}
@@ -25,7 +24,7 @@ use Rattle.scene.specs.Reading.{accepted_said, follows, read_from, read_scene}
 use Rattle.scene.specs.Reads.{starting_cell}
 use Rattle.scene.specs.Different.{Different}
 use Rattle.scene.specs.Spoken.{Spoken, spoken_at, spoken_from, spoken, among}
-use Rattle.scene.proofs.Reasons.{Looks, States, declares_why, states_why, ends_why}
+use Rattle.scene.proofs.Reasons.{States, declares_why, states_why, ends_why}
 use Rattle.scene.proofs.Endings.{accepted-records}
 use Rattle.scene.proofs.Different.{accepted_different}
 

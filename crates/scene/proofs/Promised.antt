@@ -45,7 +45,8 @@ records_decide : {scene : List ℕ} {areas : Areas} → Readable scene areas →
 records_decide {scene} lent = right-areas scene lent.lent ∙ within_limit scene lent.scene_short
 
 module _ {scene identifiers cells marks : List ℕ} {before : Areas} {at count statements : ℕ} (lent : Readable scene before)
-    (w : Going scene identifiers cells marks at count statements) {r : Record} (judged : judged_of r ≡ record_at scene (naming (take count identifiers)) at) where
+    (w : Going scene identifiers cells marks at count statements) {r : Record}
+    (judged : judged_of r ≡ record_at scene (naming (take count identifiers)) at) where
   pub ends_reads : {cells' marks' : List ℕ} → r ≡ recorded.End → cells' ≡ packed count cells → marks' ≡ packed count marks
       → Reads scene before (holding identifiers cells' marks') (Accepted count)
   unfolding areas_after

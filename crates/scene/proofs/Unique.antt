@@ -31,7 +31,7 @@ number_unique κs a r r' s s' p q = p ∙ sym q
 
 pub refused_record_unique : (κs : Lfts 1) (a : Dens κs part-kinds.ps) (r r' : (res_t part-kinds.r κs).Denot)
     (s s' : AtExit (ended_of 1 part-kinds.ps part-kinds.r) κs)
-    → part-reads.Post κs a r s → part-reads.Post κs a r' s' → (r.now ≡ r'.now) × (r.ref_ptr ≡ r'.ptr)
+    → part-reads.Post κs a r s → part-reads.Post κs a r' s' → (r.now ≡ r'.now) × (r.ref_ptr ≡ r'.ref_ptr)
 refused_record_unique κs a r r' s s' p q = (p.bytes ∙ sym q.bytes, p.itself ∙ sym q.itself)
 
 -- the reading that an answer stands for: by its number, from 0

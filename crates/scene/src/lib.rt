@@ -1,4 +1,6 @@
 // Scene files: the reader, and the bytes of a refused record.
+#![tactic(auto)]
+
 pub mod format;
 pub mod numbers;
 mod record;
@@ -18,7 +20,7 @@ use records::read_records;
 use span::span_of;
 
 // Why a record is refused.
-#[derive(Drop)]
+#[derive(Clone, Copy)]
 pub enum Refusal {
     NoRegion,
     CutShort,
@@ -50,7 +52,7 @@ impl Refusal {
     }
 }
 
-#[derive(Drop)]
+#[derive(Clone, Copy)]
 pub enum Reading {
     // Read to its end, with so many regions.
     Accepted(usize),
@@ -64,6 +66,7 @@ pub enum Reading {
 
 // Reads a scene into 64 identifiers and 4,096 cells with a mark for each: the first n identifiers, and cells and marks in rows of n. A
 // mark is the number of the last statement that removed a relation from the cell.
+#[tactic(auto, unfolding(crate::specs::Reading::read_of, crate::specs::Reading::read_scene, crate::specs::Reads::areas_after))]
 pub fn read(scene: &[u8], identifiers: &mut [u32], cells: &mut [u8], marks: &mut [u16]) -> Reading
     ensures { Reads scene.now (holding identifiers.old cells.old marks.old)
         (holding identifiers.new cells.new marks.new) result }

@@ -16,7 +16,7 @@ use region::{Found, Identifier, Place};
 use relation::RelationSet;
 
 // What a record says, or why and where it is refused.
-#[derive(Drop)]
+#[derive(Clone, Copy)]
 pub(crate) enum Record {
     Region(Identifier),
     Statement(Place, Place, RelationSet),
@@ -25,6 +25,7 @@ pub(crate) enum Record {
 }
 
 // Behind the kind stands the identifier.
+#[tactic(auto, unfolding(crate::specs::Record::judged_region, crate::specs::Format::length_of))]
 fn region_at(scene: &[u8], identifiers: &[u32], count: usize, at: usize) -> Record
     requires { Begun scene.now identifiers.now count at }
     ensures { judged_of result ≡ judged_region scene.now (naming (take count identifiers.now)) at }

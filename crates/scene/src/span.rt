@@ -9,7 +9,7 @@ use crate::format::{REGION, REGION_BYTES, STATEMENT, STATEMENT_BYTES};
 use crate::{Reading, Refusal};
 
 // A part of the scene, from its first byte to behind its last.
-#[derive(Drop)]
+#[derive(Clone, Copy)]
 pub(crate) struct Span {
     pub(crate) start: usize,
     pub(crate) end: usize,
@@ -34,6 +34,7 @@ fn record_length(kind: u8) -> usize
 }
 
 // The bytes of a record that is refused at an offset: its full length or what remains of it, and everything left for 11.
+#[tactic(auto, using(crate::proofs::Numbered::numbered), unfolding(crate::specs::Span::span_start, crate::specs::Span::span_length))]
 fn refused_span(scene: &[u8], refusal: Refusal, offset: usize) -> Span
     ensures { Spans scene.now (refused_at (number_of refusal) offset) result }
 {
