@@ -1,7 +1,7 @@
 -- The marks that a written scene gives: each of its statements takes the mark of its own cell, and no other does.
 use mathlib.Core.Path.{◌≡◌, refl, sym, ap, ◌∙◌}
 use mathlib.Core.List.{List}
-use Prim.Native.Nat.{ℕ, zero, suc, ◌+◌, ◌*◌, ◌≤◌, ◌<◌}
+use Prim.Native.Nat.{ℕ, zero, suc, ◌+◌, ◌*◌, ◌<◌}
 use native.Mathlib.Numerals.{add-one}
 use native.Mathlib.Omega.{arith}
 use borrow.Author.Tests.{eq-eqb, ne_eqb}
@@ -17,7 +17,7 @@ use Rattle.filing.proofs.MarkLaws.{mark_stays, mark_taken, start_unmarked}
 use Rattle.scene.specs.Reads.{starting_cell}
 use Rattle.writer.specs.Scene.{stated_count}
 use Rattle.writer.specs.RoundTrip.{written_marks}
-use Rattle.writer.proofs.SceneLaws.{counted_same, counted_more}
+use Rattle.writer.proofs.SceneLaws.{counted_more}
 use Rattle.writer.proofs.ReadBack.{statement_at, statements_of, statements_as_before, statements_and_one}
 use Rattle.writer.proofs.CellsBack.{not_narrowed, unstated, stated}
 
@@ -49,7 +49,8 @@ module _ (n : ℕ) (cells : List ℕ) (bytes : (p : ℕ) → get_or cells p 0 < 
       start_unmarked starting_cell i j (statements_of (n * n) n cells) (stated n cells bytes i j column-of (n * n) l ∙ e)
 
   -- its own takes it
-  taken : (cell n cells i j ≡ universal → ⊥) → (p : ℕ) → own_place < p → mark_of starting_cell (statements_of p n cells) i j ≡ stated_count (suc own_place) cells
+  taken : (cell n cells i j ≡ universal → ⊥) → (p : ℕ) → own_place < p
+      → mark_of starting_cell (statements_of p n cells) i j ≡ stated_count (suc own_place) cells
   taken d zero l = absurd (omega arith)
   taken d (suc p) l =
       split_lt own_place p

@@ -6,7 +6,7 @@ use mathlib.Core.List.{List, [], ◌∷◌}
 use Prim.Native.Nat.{ℕ, zero, suc, ◌+◌, ◌*◌, ◌≤◌, ◌<◌}
 use native.Mathlib.Omega.{arith}
 use lib.Dec.{eqb}
-use lib.ListN.{length, get_or, length-append}
+use lib.ListN.{length, get_or}
 use Rattle.lists.proofs.Splits.{split_eq}
 use Rattle.relation.specs.Sets.{universal}
 use Rattle.matrix.specs.Cells.{row, column, grid}
@@ -16,7 +16,6 @@ use Rattle.filing.specs.Stated.{stated_cell, cells_of}
 use Rattle.filing.proofs.StatedLaws.{stated-none, stated_elsewhere}
 use Rattle.scene.specs.Reading.{accepted_said, read_scene}
 use Rattle.scene.specs.Reads.{starting_cell}
-use Rattle.scene.specs.Reached.{Reached, start, region, statement}
 use Rattle.scene.proofs.Reasons.{ends_why}
 use Rattle.scene.proofs.Reached.{reached_far}
 use Rattle.scene.proofs.Endings.{accepted-records, finished}

@@ -1,4 +1,6 @@
 // The scene writer: identifiers and cells become a scene that the reader gives back unchanged.
+#![tactic(auto)]
+
 mod checks;
 pub mod numbers;
 mod put;
@@ -10,7 +12,7 @@ use put::put_scene;
 use region::{Place, identifier_at};
 use scene::format::MOST_BYTES;
 
-#[derive(Drop)]
+#[derive(Clone, Copy)]
 pub enum Writing {
     // Written, with so many bytes.
     Written(usize),
