@@ -6,7 +6,7 @@ use Prim.Native.Nat.{ℕ, ◌<◌}
 use borrow.Fn.Kinds.{Dens, res_t, ended_of}
 use contract.Lifetimes.{Lfts}
 use denote.Triple.Clauses.{AtExit}
-use lib.ListN.{length, take}
+use lib.ListN.{length}
 use Rattle.answer.specs.Answer.{Answer}
 use Rattle.answer.specs.Ending.{Ending, accepted, refused}
 use Rattle.matrix.specs.Cells.{cell, grid}

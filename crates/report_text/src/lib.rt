@@ -1,4 +1,6 @@
 // The report of a scene as text: a line for each pair of regions, or one line for a refusal.
+#![tactic(auto)]
+
 mod lines;
 
 ghost use Rattle.std.specs.Prelude.{◌≡◌};
