@@ -1,15 +1,14 @@
 // What both kinds of cases print with: words, numbers and bytes on standard output.
 ghost use Rattle.std.specs.Prelude.{◌<◌};
 
-use libc::STDOUT_FILENO;
+use std::io;
 
-pub(crate) fn word(text: &[u8]) {
-    io::write_all(STDOUT_FILENO, text);
+pub(crate) fn word<R: Print>(rt: &R, text: &[u8]) -> io::Result<()> {
+    Print::write_all(rt, text)
 }
 
-pub(crate) fn number(value: u64) {
-    word(b" ");
-    io::print_decimal(STDOUT_FILENO, value);
+pub(crate) fn number<R: Print>(rt: &R, value: u64) -> io::Result<()> {
+    print!(rt; " {value}")
 }
 
 fn wide(entry: u8) -> u64
@@ -19,37 +18,39 @@ fn wide(entry: u8) -> u64
 }
 
 // The first `count` at most.
-pub(crate) fn print_cells(cells: &[u8], count: usize) {
+pub(crate) fn print_cells<R: Print>(rt: &R, cells: &[u8], count: usize) -> io::Result<()> {
     let mut place: usize = 0;
     while place < count {
         if cells.len() <= place {
-            return;
+            return Ok(());
         }
-        number(wide(cells[place]));
+        number(rt, wide(cells[place]))?;
         place += 1;
     }
+    Ok(())
 }
 
 // The sum of cells that are too many to print.
-pub(crate) fn print_sum(cells: &[u8]) {
+pub(crate) fn print_sum<R: Print>(rt: &R, cells: &[u8]) -> io::Result<()> {
     let mut sum: u64 = 0;
     let mut place: usize = 0;
     while place < cells.len() {
         sum = (sum + wide(cells[place])) % 4294967296;
         place += 1;
     }
-    number(sum);
+    number(rt, sum)
 }
 
 // The first ten bytes at most, in hex.
-pub(crate) fn print_bytes(bytes: &[u8]) {
+pub(crate) fn print_bytes<R: Print>(rt: &R, bytes: &[u8]) -> io::Result<()> {
     let mut place: usize = 0;
     while place < bytes.len() {
         if place == 10 {
-            return;
+            return Ok(());
         }
-        word(b" ");
-        io::print_hex(STDOUT_FILENO, wide(bytes[place]), 2);
+        let byte = bytes[place];
+        print!(rt; " {byte:02x}")?;
         place += 1;
     }
+    Ok(())
 }

@@ -1,5 +1,5 @@
 -- The marks of an accepted scene cross to C whole: from its two bytes a host takes the number of the statement, at most 3,276.
-use mathlib.Core.Path.{◌≡◌, refl, ap, ◌∙◌}
+use mathlib.Core.Path.{◌≡◌, ap, ◌∙◌}
 use mathlib.Core.List.{List, [], ◌∷◌}
 use Prim.Native.Nat.{ℕ, zero, suc, ◌+◌, ◌*◌, ◌≤◌, ◌<◌}
 use native.Mathlib.Omega.{arith}
@@ -11,7 +11,6 @@ use lib.ListN.{length, get_or, length-replicate}
 use Rattle.lists.specs.BigEndian.{two_bytes_each}
 use Rattle.lists.proofs.BigEndianLaws.{two_joined}
 use Rattle.answer.specs.Ending.{Ending}
-use Rattle.matrix.specs.Cells.{cell, grid}
 use Rattle.matrix.proofs.CellLaws.{place_lt, length-grid, cell-grid}
 use Rattle.filing.specs.Said.{Said, regions}
 use Rattle.filing.specs.Marks.{mark_of, marks_of}

@@ -10,7 +10,7 @@ use lib.Dec.{eqb, ltb}
 use lib.ListN.{length}
 use Rattle.lists.proofs.Splits.{split_eq, by_test}
 use Rattle.lists.proofs.BigEndianLaws.{joined}
-use Rattle.answer.specs.Answer.{Answer, answer}
+use Rattle.answer.specs.Answer.{Answer}
 use Rattle.answer.specs.Ending.{Ending, accepted, refused, answered}
 use Rattle.answer.specs.Bytes.{Answers}
 use Rattle.answer.proofs.Stops.{by_stop}

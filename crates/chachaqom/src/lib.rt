@@ -1,5 +1,7 @@
 // The calls for a host in C: numbers and byte slices only, each slice a pointer and a length. Every answer is 20 bytes. A file for
 // each call.
+#![tactic(auto)]
+
 pub mod prepare;
 pub mod read;
 pub mod refine;

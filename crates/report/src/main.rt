@@ -1,58 +1,64 @@
 // Reads a scene on standard input and prints its report. One byte more than a scene may have is read, so that a longer one
 // is seen as such. Where the input cannot be read or the output not written, a line on standard error says so; where nothing was
 // read, no report is printed.
+#![tactic(auto)]
+
 ghost use Rattle.report.specs.Inner.{Fits};
 
-use libc::{STDERR_FILENO, STDIN_FILENO, STDOUT_FILENO};
+use std::env::{Env, FillError};
+use std::io::{self, Read};
 
 // How reading the input ended.
 #[derive(Drop)]
 enum Input {
     Read(usize),
-    Failed,
+    Failed(io::Error),
 }
 
 // Reads until the space is full, the input ends or a read fails.
-fn read_input(space: &mut [u8]) -> Input
+#[tactic(auto, unfolding(crate::specs::Inner::Fits))]
+fn read_input<R: Read>(reader: &mut R, space: &mut [u8]) -> Input
     ensures { Fits result space.new }
 {
     let mut done: usize = 0;
     while done < space.len() {
-        let got = libc::read(STDIN_FILENO, &mut space[done..]);
-        if got < 0 {
-            return Input::Failed;
+        match reader.read(&mut space[done..]) {
+            Err(error) => return Input::Failed(error),
+            Ok(more) => {
+                if more == 0 {
+                    return Input::Read(done);
+                }
+                done += more;
+            }
         }
-        let more = io::count(got, &space[done..]);
-        if more == 0 {
-            return Input::Read(done);
-        }
-        done += more;
     }
     Input::Read(done)
 }
 
 // Prints the report on a scene.
-fn print_report(scene: &[u8]) {
+fn print_report<R: Print + Eprint>(rt: &R, scene: &[u8]) -> io::Result<()> {
     let mut buffer = [0u8; 131072];
     let count = report_text::report(scene, &mut buffer);
-    if !io::write_all(STDOUT_FILENO, &buffer[..count]) {
-        os::fail(b"report: standard output");
+    if let Err(error) = Print::write_all(rt, &buffer[..count]) {
+        eprintln!(rt; "report: standard output: {error}")?;
     }
+    Ok(())
 }
 
-fn main() {
-    if os::arg_count() > 1 {
-        io::write_all(STDERR_FILENO, b"usage: report < SCENE\n");
-        return;
+// Whether the program was given an argument.
+fn has_argument<R: Env>(rt: &R) -> bool {
+    let mut start = [0u8; 1];
+    !matches!(rt.arg(1, &mut start), Err(FillError::NotPresent))
+}
+
+#[tactic(auto, unfolding(crate::specs::Inner::Fits))]
+fn main(rt: HostRuntime) -> io::Result<()> {
+    if has_argument(&rt) {
+        return eprintln!(rt; "usage: report < SCENE");
     }
     let mut space = [0u8; 32769];
-    let input = read_input(&mut space);
-    match input {
-        Input::Read(size) => {
-            print_report(&space[..size]);
-        }
-        Input::Failed => {
-            os::fail(b"report: standard input");
-        }
+    match read_input(&mut rt.reader(), &mut space) {
+        Input::Read(size) => print_report(&rt, &space[..size]),
+        Input::Failed(error) => eprintln!(rt; "report: standard input: {error}"),
     }
 }
