@@ -57,7 +57,7 @@ library: $(ARCHIVE) $(SHARED)
 
 # All that the prover reads: every file and folder of the crates, so that one that went is noticed too, and the kit.
 KIT = $(patsubst %/bin/rt,%,$(realpath $(shell command -v rt 2> /dev/null)))
-PROVED = crates.txt $(shell find crates -name must-fail -prune -o -print) $(wildcard $(KIT)/KIT-ID)
+PROVED = crates.txt $(shell find crates -name must-fail -prune -o -name out -prune -o -print) $(wildcard $(KIT)/KIT-ID)
 
 target/staticlib/libchachaqom.a: $(PROVED)
 	@tools/prove staticlib chachaqom
@@ -169,7 +169,7 @@ $(BUILD):
 	mkdir -p $@
 
 clean:
-	rm -rf target
+	rm -rf target crates/*/out
 
 help:
 	@sed -n 's/^#   //p' Makefile

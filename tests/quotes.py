@@ -42,6 +42,8 @@ def names_there():
     """Every name that a file of Rattle or antt declares, and every must-fail edit."""
     names = set()
     for path in TOP.glob("crates/**/*.antt"):
+        if "out" in path.relative_to(TOP).parts:
+            continue
         text = path.read_text()
         names.update(re.findall(r"^ *(?:abbrev |unfoldable )?(?:pub )?(?:record |data )?([A-Za-z][^\s:(){}]*) *[:({]", text, re.M))
         names.add(path.stem)

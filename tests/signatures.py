@@ -10,7 +10,7 @@ TOP = pathlib.Path(__file__).resolve().parent.parent
 NUMBERS = {"u8": "uint8_t", "u32": "uint32_t", "u64": "uint64_t", "usize": "size_t"}
 SLICES = {"&[u8]": "const uint8_t *", "&mut [u8]": "uint8_t *"}
 
-EXPORT = re.compile(r'#\[no_mangle\]\s*pub extern "C" fn (\w+)\(([^)]*)\)(?:\s*->\s*(\w+))?')
+EXPORT = re.compile(r'#\[unsafe\(no_mangle\)\]\s*pub extern "C" fn (\w+)\(([^)]*)\)(?:\s*->\s*(\w+))?')
 PROTOTYPE = re.compile(r"^(\w[\w ]*[ *])(chachaqom_\w+)\(([^)]*)\);", re.M)
 
 
@@ -78,7 +78,7 @@ ALTERED = [
     ("source", "    first: &mut [u8],\n    second: &mut [u8],", "    second: &mut [u8],\n    first: &mut [u8],"),
     ("source", "    scene: &[u8],", "    scene: &mut [u8],"),
     ("source", "    n: usize,", "    n: u32,"),
-    ("source", '#[no_mangle]\npub extern "C" fn chachaqom_read(', "pub fn chachaqom_read("),
+    ("source", '#[unsafe(no_mangle)]\npub extern "C" fn chachaqom_read(', "pub fn chachaqom_read("),
     ("source", "    answer: &mut [u8],\n) -> u32\n", "    answer: &mut [u8],\n) -> usize\n"),
 ]
 
@@ -101,7 +101,7 @@ def main():
     header = (TOP / "include" / "chachaqom.h").read_text()
     missed = unnoticed(source, header)
     wrong = differences(source, header) + missed
-    if len(re.findall(r"#\[no_mangle\]", without_comments(source, "//"))) != len(exported(source)):
+    if len(re.findall(r"#\[unsafe\(no_mangle\)\]", without_comments(source, "//"))) != len(exported(source)):
         wrong.append("an export has a form that is not known here")
     print(*(f"signatures: {line}" for line in wrong), sep="\n", end="\n" if wrong else "")
     print(f"signatures: {len(exported(source))} calls, {len(wrong)} wrong; {len(ALTERED) - len(missed)} altered copies noticed")

@@ -38,7 +38,8 @@ proving_told() {
     mkdir -p "$stand_in" && rm -f "$stand_in/go" || return 1
     cat > "$stand_in/rt" << 'RT'
 #!/bin/sh
-echo "rt: region proved (1 s)"
+echo "crate region: modules loaded=0 checked=1"
+echo "logic=proved functions=2 sum=0"
 for tenth in $(seq 200); do
     [ ! -e "${0%/rt}/go" ] || exit 0
     sleep 0.1
@@ -49,7 +50,7 @@ RT
     chmod +x "$stand_in/rt"
     PATH=$stand_in:$PATH tools/prove check report 2> "$WORK/proving.txt" &
     for tenth in $(seq 100); do
-        grep -q '^prove: 1 of [0-9]*: region proved' "$WORK/proving.txt" && break
+        grep -q '^prove: 1 of [0-9]*: region: 2 functions proved' "$WORK/proving.txt" && break
         sleep 0.1
     done
     [ "$tenth" -lt 100 ] && touch "$stand_in/go"

@@ -47,7 +47,7 @@ report_failures() {
         ends 2 "standard output" report_limited_output &&
         ends 2 "usage: report < SCENE" tools/report examples/sector.scene &&
         [ ! -s "$WORK/ends.out" ] || return 1
-    # Run by itself the program cannot set its status, but it says the same.
+    # Run by itself the program ends with 0, but it says the same.
     ends 0 "standard input: Is a directory" program_on examples && [ ! -s "$WORK/ends.out" ] &&
         ends 0 "standard output: No space" program_full_output
 }
