@@ -4,9 +4,5 @@ use Rattle.answer.proofs.put_answer.Goals as goal
 
 pub returns : goal.returns
 returns c =
-    let at_crossing4 = c in
-    let at_crossing3 = at_crossing4 in
-    let at_crossing2 = at_crossing3 in
-    let at_crossing = at_crossing2 in
-    crossed_answer at_crossing.if-area-ne20.false at_crossing.crossing-first.ensures at_crossing2.crossing-second.ensures at_crossing3.crossing-third.ensures
-    at_crossing4.crossing-count.ensures c.put_five.ensures
+    crossed_answer c.if-area-ne20.false c.crossing-first.ensures c.crossing-second.ensures c.crossing-third.ensures
+    c.crossing-count.ensures c.put_five.ensures

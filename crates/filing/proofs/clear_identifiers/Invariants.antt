@@ -5,9 +5,7 @@ use Rattle.lists.proofs.Filling.{Filling}
 use Rattle.filing.proofs.clear_identifiers.Given as goal
 
 abbrev pub invariant-loop-place : goal.invariant-loop-place
-invariant-loop-place l =
-    Filling (replicate (length l.initial.identifiers) 0) l.initial.identifiers l.identifiers l.place
+invariant-loop-place l = Filling (replicate (length l.initial.identifiers) 0) l.initial.identifiers l.identifiers l.place
 
 abbrev pub decreases-loop-place : goal.decreases-loop-place
-decreases-loop-place l =
-    length l.initial.identifiers - l.place
+decreases-loop-place l = length l.initial.identifiers - l.place

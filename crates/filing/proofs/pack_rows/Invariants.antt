@@ -6,9 +6,7 @@ use Rattle.lists.proofs.Filling.{Filling}
 use Rattle.filing.proofs.pack_rows.Given as goal
 
 abbrev pub invariant-loop-at : goal.invariant-loop-at
-invariant-loop-at l =
-    Filling (packed l.n l.initial.cells) l.initial.cells l.cells l.at
+invariant-loop-at l = Filling (packed l.n l.initial.cells) l.initial.cells l.cells l.at
 
 abbrev pub decreases-loop-at : goal.decreases-loop-at
-decreases-loop-at l =
-    length l.initial.cells - l.at
+decreases-loop-at l = length l.initial.cells - l.at

@@ -11,5 +11,4 @@ invariant-loop-place l =
     (l.place ≤ length l.new) × (l.place ≤ length l.old) × ((k : ℕ) → k < l.place → not (eqb (get_or l.new k 0) (get_or l.old k 0)) ≡ false)
 
 abbrev pub decreases-loop-place : goal.decreases-loop-place
-decreases-loop-place l =
-    length l.new - l.place
+decreases-loop-place l = length l.new - l.place

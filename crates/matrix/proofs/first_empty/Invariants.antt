@@ -7,9 +7,7 @@ use lib.ListN.{length, get_or}
 use Rattle.matrix.proofs.first_empty.Given as goal
 
 abbrev pub invariant-loop-place : goal.invariant-loop-place
-invariant-loop-place l =
-    (l.place ≤ length l.cells) × ((k : ℕ) → k < l.place → eqb (get_or l.cells k 0) 0 ≡ false)
+invariant-loop-place l = (l.place ≤ length l.cells) × ((k : ℕ) → k < l.place → eqb (get_or l.cells k 0) 0 ≡ false)
 
 abbrev pub decreases-loop-place : goal.decreases-loop-place
-decreases-loop-place l =
-    length l.cells - l.place
+decreases-loop-place l = length l.cells - l.place

@@ -8,5 +8,4 @@ returns-then-cells-place c = nothing_written _ _ _ _ _ c.cell_place-place.ensure
 
 pub returns : goal.returns
 returns c =
-    let d = c in
-    cell-written _ _ _ _ _ d.cell_place-place.ensures d.if-cells-place.false (omega arith) _ _ c.intersect.ensures
+    cell-written _ _ _ _ _ c.cell_place-place.ensures c.if-cells-place.false (omega arith) _ _ c.intersect.ensures

@@ -24,15 +24,13 @@ returns-then-cells-size c =
 
 pub returns-then-room-size : goal.returns-then-room-size
 returns-then-room-size c =
-    let cells = c in
     prepared_untouched _ _ _ _ (answer 2 0 0 0 0) _
-    (readied_short_first _ _ _ _ (sym c.in_range.ensures ∙ c.if-not-in_range.false) cells.if-cells-size.false c.if-room-size.true) refl refl
+    (readied_short_first _ _ _ _ (sym c.in_range.ensures ∙ c.if-not-in_range.false) c.if-cells-size.false c.if-room-size.true) refl refl
 
 pub returns-then-second-size : goal.returns-then-second-size
 returns-then-second-size c =
-    let cells = c in
     prepared_untouched _ _ _ _ (answer 2 0 0 0 0) _
-    (readied_short_second _ _ _ _ (sym c.in_range.ensures ∙ c.if-not-in_range.false) cells.if-cells-size.false c.if-room-size.false c.if-second-size.true) refl refl
+    (readied_short_second _ _ _ _ (sym c.in_range.ensures ∙ c.if-not-in_range.false) c.if-cells-size.false c.if-room-size.false c.if-second-size.true) refl refl
 
 pub make_ready-requires : goal.make_ready-requires
 make_ready-requires c =
@@ -46,5 +44,4 @@ make_ready-requires c =
 
 pub returns : goal.returns
 returns c =
-    let ready = c in
-    prepared_fronts _ _ _ _ _ _ _ (limits_kept _ _ _ _ (sym c.in_range.ensures ∙ c.if-not-in_range.false) c.if-cells-size.false c.if-room-size.false c.if-second-size.false) ready.make_ready.ensures
+    prepared_fronts _ _ _ _ _ _ _ (limits_kept _ _ _ _ (sym c.in_range.ensures ∙ c.if-not-in_range.false) c.if-cells-size.false c.if-room-size.false c.if-second-size.false) c.make_ready.ensures

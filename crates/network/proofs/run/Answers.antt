@@ -24,14 +24,11 @@ returns-then-second-size c =
 
 pub run-requires : goal.run-requires
 run-requires c =
-    let checked = c in
     let r = range_holds _ (sym c.in_range.ensures ∙ c.if-not-in_range.false) in (
-      record { some = r.0; few = r.1; size = length-take-le _ _ checked.if-first-size.false },
-      record { some = r.0; few = r.1; size = length-take-le _ _ checked.if-second-size.false },
+      record { some = r.0; few = r.1; size = length-take-le _ _ c.if-first-size.false },
+      record { some = r.0; few = r.1; size = length-take-le _ _ c.if-second-size.false },
     )
 
 pub returns : goal.returns
 returns c =
-    let ran = c in
-    let checked = ran in
-    ran_fronts _ _ _ _ _ _ _ _ (sym c.in_range.ensures ∙ c.if-not-in_range.false) checked.if-first-size.false checked.if-second-size.false ran.run.ensures
+    ran_fronts _ _ _ _ _ _ _ _ (sym c.in_range.ensures ∙ c.if-not-in_range.false) c.if-first-size.false c.if-second-size.false c.run.ensures

@@ -11,5 +11,4 @@ invariant-loop-at l =
     (l.at ≤ l.count) × (l.at ≤ length l.identifiers) × ((k : ℕ) → k < l.at → eqb (get_or l.identifiers k 0) l.number ≡ false)
 
 abbrev pub decreases-loop-at : goal.decreases-loop-at
-decreases-loop-at l =
-    l.count - l.at
+decreases-loop-at l = l.count - l.at

@@ -12,9 +12,7 @@ overflow_mul-stated c = omega (arith, cells-few (accepted_read c.read.ensures c.
 
 pub slice_bounds-stated-end : goal.slice_bounds-stated-end
 slice_bounds-stated-end c =
-    let at_n = c in
-    let at_read = at_n in
-    omega (arith, cells-few (accepted_read c.read.ensures c.in-Accepted.is), at_read.read.auto.cells)
+    omega (arith, cells-few (accepted_read c.read.ensures c.in-Accepted.is), c.read.auto.cells)
 
 pub slice_bounds-put_refined-end-in-Accepted-2 : goal.slice_bounds-put_refined-end-in-Accepted-2
 slice_bounds-put_refined-end-in-Accepted-2 c = sym (stated_front (accepted_read c.read.ensures c.in-Accepted.is)).size
@@ -24,9 +22,7 @@ overflow_mul-marks c = omega (arith, cells-few (accepted_read c.read.ensures c.i
 
 pub slice_bounds-marks-end : goal.slice_bounds-marks-end
 slice_bounds-marks-end c =
-    let at_n = c in
-    let at_read = at_n in
-    omega (arith, cells-few (accepted_read c.read.ensures c.in-Accepted.is), at_read.read.auto.marks)
+    omega (arith, cells-few (accepted_read c.read.ensures c.in-Accepted.is), c.read.auto.marks)
 
 pub slice_bounds-put_refined-end-in-Accepted-3 : goal.slice_bounds-put_refined-end-in-Accepted-3
 slice_bounds-put_refined-end-in-Accepted-3 c = sym (marks_front (accepted_read c.read.ensures c.in-Accepted.is)).size
@@ -41,23 +37,16 @@ returns-in-Accepted c = accepted_reported (accepted_read c.read.ensures c.in-Acc
 
 pub returns-in-WrongLength : goal.returns-in-WrongLength
 returns-in-WrongLength c =
-    let at_told = c in
-    let at_read = at_told in
-    absurd (never_wrong at_read.read.ensures at_told.in-WrongLength.is)
+    absurd (never_wrong c.read.ensures c.in-WrongLength.is)
 
 pub returns-in-TooLong : goal.returns-in-TooLong
 returns-in-TooLong c =
-    let at_told = c in
-    let at_read = at_told in
-    length_reported at_read.read.ensures (omega arith) at_told.in-TooLong.is c.put_refusal-in-TooLong.ensures
+    length_reported c.read.ensures (omega arith) c.in-TooLong.is c.put_refusal-in-TooLong.ensures
 
 pub returns-in-Refused : goal.returns-in-Refused
 returns-in-Refused c =
-    let at_number = c in
-    let at_refusal = at_number in
-    let at_read = at_refusal in
     let line = subst
-    (λ (x : ℕ). Adds (refusal_line x at_refusal.in-Refused.offset 0 0) at_read.args.buffer.now 0
+    (λ (x : ℕ). Adds (refusal_line x c.in-Refused.offset 0 0) c.args.buffer.now 0
     c.put_refusal-in-Refused.new.buffer c.put_refusal-in-Refused.result)
-    at_number.number.ensures c.put_refusal-in-Refused.ensures in
-    record_reported at_read.read.ensures (omega arith) at_refusal.in-Refused.is line
+    c.number.ensures c.put_refusal-in-Refused.ensures in
+    record_reported c.read.ensures (omega arith) c.in-Refused.is line

@@ -6,9 +6,7 @@ use Rattle.text.proofs.PutLaws.{Copied}
 use Rattle.text.proofs.put_word.Given as goal
 
 abbrev pub invariant-loop-done : goal.invariant-loop-done
-invariant-loop-done l =
-    Copied l.initial.buffer l.at l.word l.done l.buffer
+invariant-loop-done l = Copied l.initial.buffer l.at l.word l.done l.buffer
 
 abbrev pub decreases-loop-done : goal.decreases-loop-done
-decreases-loop-done l =
-    length l.word - l.done
+decreases-loop-done l = length l.word - l.done

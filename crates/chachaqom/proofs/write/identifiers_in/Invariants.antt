@@ -6,8 +6,7 @@ use Rattle.lists.specs.BigEndian.{numbers_in}
 use Rattle.chachaqom.proofs.write.identifiers_in.Given as goal
 
 abbrev pub invariant-loop-place : goal.invariant-loop-place
-invariant-loop-place l =
-    (l.place ≤ l.n) × (length l.identifiers ≡ 64) × (take l.place l.identifiers ≡ numbers_in l.place l.bytes)
+invariant-loop-place l = (l.place ≤ l.n) × (length l.identifiers ≡ 64) × (take l.place l.identifiers ≡ numbers_in l.place l.bytes)
 
 abbrev pub decreases-loop-place : goal.decreases-loop-place
 decreases-loop-place l = l.n - l.place

@@ -6,7 +6,6 @@ use Rattle.network.proofs.emptied.along.Goals as goal
 
 pub returns : goal.returns
 returns c =
-    let start = c in
-    let own = cell_in start.requires.4 start.requires.0 start.requires.1 c.at.ensures in
-    let onward = cell_in start.requires.4 start.requires.1 start.requires.2 c.at-onward.ensures in
-    composed_by_listed start.requires.3 (omega arith) own onward c.compose_by.ensures
+    let own = cell_in c.requires.4 c.requires.0 c.requires.1 c.at.ensures in
+    let onward = cell_in c.requires.4 c.requires.1 c.requires.2 c.at-onward.ensures in
+    composed_by_listed c.requires.3 (omega arith) own onward c.compose_by.ensures

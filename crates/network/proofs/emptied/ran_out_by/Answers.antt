@@ -7,24 +7,19 @@ use Rattle.network.proofs.emptied.ran_out_by.Goals as goal
 
 pub loop-k-init : goal.loop-k-init
 loop-k-init c =
-    let start = c in
-    let a = start.args in
-    let cell = cell_in start.requires.3 start.requires.0 start.requires.1 c.at-set.ensures in
+    let a = c.args in
+    let cell = cell_in c.requires.3 c.requires.0 c.requires.1 c.at-set.ensures in
     running_starts _ _ _ _ _ cell (c.type_inv.old (a.i * a.n + a.j)).fits
 
 pub returns-then-is_empty : goal.returns-then-is_empty
 returns-then-is_empty c =
-    let narrowed = c in
-    let turn = narrowed in
-    running_out turn.loop-k.invariant turn.loop-k-test.true _ _ narrowed.along.ensures
-    narrowed.intersect-set.ensures _ c.is_empty.ensures c.if-is_empty.true
+    running_out c.loop-k.invariant c.loop-k-test.true _ _ c.along.ensures
+    c.intersect-set.ensures _ c.is_empty.ensures c.if-is_empty.true
 
 pub loop-k-preserved : goal.loop-k-preserved
 loop-k-preserved c =
-    let narrowed = c in
-    let turn = narrowed in
-    running_on turn.loop-k.invariant turn.loop-k-test.true _ _ narrowed.along.ensures
-    narrowed.intersect-set.ensures _ c.is_empty.ensures c.if-is_empty.false
+    running_on c.loop-k.invariant c.loop-k-test.true _ _ c.along.ensures
+    c.intersect-set.ensures _ c.is_empty.ensures c.if-is_empty.false
 
 pub returns : goal.returns
 returns c = running_ends c.loop-k.invariant c.loop-k-test.false

@@ -8,12 +8,9 @@ use Rattle.network.proofs.leaving.accept.Goals as goal
 
 pub returns : goal.returns
 returns c =
-    let both = c in
-    let one = both in
-    let start = one in
-    let a = start.args in
+    let a = c.args in
     record {
       told = ap (Accepted a.n a.count) (c.holds.ensures ∙ ap (λ (x : Area). holds x a.count) c.other.ensures);
-      in_first = one.give.ensures ∙ gives start.requires.1 a.old.now start.requires.0;
-      in_second = both.give-2.ensures ∙ gives start.requires.2 a.old.now start.requires.0;
+      in_first = c.give.ensures ∙ gives c.requires.1 a.old.now c.requires.0;
+      in_second = c.give-2.ensures ∙ gives c.requires.2 a.old.now c.requires.0;
     }

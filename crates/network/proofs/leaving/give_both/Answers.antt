@@ -6,22 +6,14 @@ use Rattle.network.proofs.leaving.give_both.Goals as goal
 
 pub returns-in-First : goal.returns-in-First
 returns-in-First c =
-    let both = c in
-    let one = both in
-    let named = one in
-    let start = named in
-    let a = start.args in
-    shares_first _ _ _ _ _ _ named.in-First.is
-    (one.give.ensures ∙ gives start.requires.2 a.new.now start.requires.1)
-    (both.give-in-First.ensures ∙ gives start.requires.3 a.old.now start.requires.0)
+    let a = c.args in
+    shares_first _ _ _ _ _ _ c.in-First.is
+    (c.give.ensures ∙ gives c.requires.2 a.new.now c.requires.1)
+    (c.give-in-First.ensures ∙ gives c.requires.3 a.old.now c.requires.0)
 
 pub returns-in-Second : goal.returns-in-Second
 returns-in-Second c =
-    let both = c in
-    let one = both in
-    let named = one in
-    let start = named in
-    let a = start.args in
-    shares_second _ _ _ _ _ _ named.in-Second.is
-    (one.give-in-Second.ensures ∙ gives start.requires.2 a.old.now start.requires.0)
-    (both.give-in-Second-2.ensures ∙ gives start.requires.3 a.new.now start.requires.1)
+    let a = c.args in
+    shares_second _ _ _ _ _ _ c.in-Second.is
+    (c.give-in-Second.ensures ∙ gives c.requires.2 a.old.now c.requires.0)
+    (c.give-in-Second-2.ensures ∙ gives c.requires.3 a.new.now c.requires.1)

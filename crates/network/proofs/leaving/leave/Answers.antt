@@ -6,28 +6,20 @@ use Rattle.network.proofs.leaving.leave.Goals as goal
 pub refuse-requires : goal.refuse-requires
 unfolding Placed
 refuse-requires c =
-    let named = c in
-    let start = named in
-    let placed = subst (Placed start.args.n) named.in-Empty.is start.requires.0 in
-    (placed.0, placed.1, start.requires.1, start.requires.3, start.requires.4)
+    let placed = subst (Placed c.args.n) c.in-Empty.is c.requires.0 in
+    (placed.0, placed.1, c.requires.1, c.requires.3, c.requires.4)
 
 pub returns-in-Empty : goal.returns-in-Empty
 unfolding Leaves
 returns-in-Empty c =
-    let made = c in
-    let named = made in
-    rw named.in-Empty.is made.refuse.ensures
+    rw c.in-Empty.is c.refuse.ensures
 
 pub returns-in-Same : goal.returns-in-Same
 unfolding Leaves
 returns-in-Same c =
-    let made = c in
-    let named = made in
-    rw named.in-Same.is made.accept.ensures
+    rw c.in-Same.is c.accept.ensures
 
 pub returns-in-UsedUp : goal.returns-in-UsedUp
 unfolding Leaves
 returns-in-UsedUp c =
-    let made = c in
-    let named = made in
-    rw named.in-UsedUp.is made.use_up.ensures
+    rw c.in-UsedUp.is c.use_up.ensures

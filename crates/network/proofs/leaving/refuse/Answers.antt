@@ -13,18 +13,14 @@ use Rattle.network.proofs.leaving.refuse.Goals as goal
 
 pub returns : goal.returns
 returns c =
-    let cleared = c in
-    let searched = cleared in
-    let given = searched in
-    let start = given in
-    let a = start.args in
-    let there = given.give.ensures ∙ gives start.requires.3 a.old.now start.requires.2 in
+    let a = c.args in
+    let there = c.give.ensures ∙ gives c.requires.3 a.old.now c.requires.2 in
     record {
       told = ap (λ (k : ℕ). Refused (Triple (place a.row) (place k) (place a.column)) a.round)
-          (searched.ran_out-k.ensures ∙ ap (λ (m : List ℕ). ran_out a.n m a.row a.column) there);
+          (c.ran_out-k.ensures ∙ ap (λ (m : List ℕ). ran_out a.n m a.row a.column) there);
       cleared = record {
-        in_first = cleared.clear.ensures.in_first
-            ∙ ap (λ (l : ℕ). replicate l 0) (ap length there ∙ size_of a.n a.old.now ∙ sym start.requires.3.size);
-        in_second = cleared.clear.ensures.in_second;
+        in_first = c.clear.ensures.in_first
+            ∙ ap (λ (l : ℕ). replicate l 0) (ap length there ∙ size_of a.n a.old.now ∙ sym c.requires.3.size);
+        in_second = c.clear.ensures.in_second;
       };
     }

@@ -12,5 +12,4 @@ invariant-loop-place l =
     (l.place ≤ length l.cells) × ((k : ℕ) → k < l.place → not (is_plain_cell l.n l.cells (row l.n k) (column l.n k)) ≡ false)
 
 abbrev pub decreases-loop-place : goal.decreases-loop-place
-decreases-loop-place l =
-    length l.cells - l.place
+decreases-loop-place l = length l.cells - l.place

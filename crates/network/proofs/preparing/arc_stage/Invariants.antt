@@ -6,9 +6,7 @@ use Rattle.lists.proofs.Filling.{Filling}
 use Rattle.network.proofs.preparing.arc_stage.Given as goal
 
 abbrev pub invariant-loop-place : goal.invariant-loop-place
-invariant-loop-place l =
-    Filling (prepared l.n l.cells) l.initial.area l.area l.place
+invariant-loop-place l = Filling (prepared l.n l.cells) l.initial.area l.area l.place
 
 abbrev pub decreases-loop-place : goal.decreases-loop-place
-decreases-loop-place l =
-    length l.initial.area - l.place
+decreases-loop-place l = length l.initial.area - l.place

@@ -8,14 +8,10 @@ returns-then-i-n c = prepares_region _ _ _ _ c.emptied_region-i.ensures c.if-i-n
 
 pub returns-then-place-first : goal.returns-then-place-first
 returns-then-place-first c =
-    let searched = c in
-    let kept = searched in
-    prepares_pair _ _ _ _ kept.emptied_region-i.ensures kept.if-i-n.false _ searched.arc_stage.ensures _
-    searched.first_empty-place.ensures (omega arith)
+    prepares_pair _ _ _ _ c.emptied_region-i.ensures c.if-i-n.false _ c.arc_stage.ensures _
+    c.first_empty-place.ensures (omega arith)
 
 pub returns : goal.returns
 returns c =
-    let searched = c in
-    let kept = searched in
-    prepares_ready _ _ _ _ kept.emptied_region-i.ensures kept.if-i-n.false _ searched.arc_stage.ensures _
-    searched.first_empty-place.ensures (omega arith)
+    prepares_ready _ _ _ _ c.emptied_region-i.ensures c.if-i-n.false _ c.arc_stage.ensures _
+    c.first_empty-place.ensures (omega arith)

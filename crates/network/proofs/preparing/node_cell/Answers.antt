@@ -5,12 +5,10 @@ use Rattle.network.proofs.preparing.node_cell.Goals as goal
 
 pub returns-then-i-j : goal.returns-then-i-j
 returns-then-i-j c =
-    let start = c in
-    let cell = cell_in start.requires.2 start.requires.0 start.requires.1 c.at-stated.ensures in
-    node_on_diagonal start.args.n start.args.cells.now _ _ _ _ c.if-i-j.true cell c.intersect.ensures
+    let cell = cell_in c.requires.2 c.requires.0 c.requires.1 c.at-stated.ensures in
+    node_on_diagonal c.args.n c.args.cells.now _ _ _ _ c.if-i-j.true cell c.intersect.ensures
 
 pub returns : goal.returns
 returns c =
-    let start = c in
-    let cell = cell_in start.requires.2 start.requires.0 start.requires.1 c.at-stated.ensures in
-    node_off_diagonal start.args.n start.args.cells.now _ _ _ c.if-i-j.false cell
+    let cell = cell_in c.requires.2 c.requires.0 c.requires.1 c.at-stated.ensures in
+    node_off_diagonal c.args.n c.args.cells.now _ _ _ c.if-i-j.false cell

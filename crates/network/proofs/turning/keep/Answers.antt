@@ -8,8 +8,7 @@ loop-at-init c = filling_begins _ _
 
 pub loop-at-preserved : goal.loop-at-preserved
 loop-at-preserved c =
-    let turn = c in
-    filling_more _ _ _ _ (sym turn.requires) turn.loop-at.invariant _ turn.loop-at-test.true refl
+    filling_more _ _ _ _ (sym c.requires) c.loop-at.invariant _ c.loop-at-test.true refl
 
 pub returns : goal.returns
 returns c = filling_ends _ _ _ _ (sym c.requires) c.loop-at.invariant c.loop-at-test.false

@@ -8,31 +8,24 @@ use Rattle.network.proofs.turning.some_rounds.Goals as goal
 
 pub loop-count-init : goal.loop-count-init
 loop-count-init c =
-    let taken = c in
-    let start = taken in
-    (loop_starts _ _ _ _ _ _ _ start.requires.0 start.requires.1 taken.take.ensures, refl)
+    (loop_starts _ _ _ _ _ _ _ c.requires.0 c.requires.1 c.take.ensures, refl)
 
 pub returns-then-came-n : goal.returns-then-came-n
 unfolding Ends
 returns-then-came-n c =
-    let t = c in
-    let at = t.loop-count.invariant in
-    loop_empties at.0 t.loop-count-test.true t.keep.ensures at.1 t.round-came.ensures c.if-came-n.true
+    let at = c.loop-count.invariant in
+    loop_empties at.0 c.loop-count-test.true c.keep.ensures at.1 c.round-came.ensures c.if-came-n.true
 
 pub returns-then-came-eq0 : goal.returns-then-came-eq0
 unfolding Ends
 returns-then-came-eq0 c =
-    let tested = c in
-    let t = tested in
-    let at = t.loop-count.invariant in
-    loop_rests at.0 t.loop-count-test.true t.keep.ensures at.1 t.round-came.ensures tested.if-came-n.false c.if-came-eq0.true
+    let at = c.loop-count.invariant in
+    loop_rests at.0 c.loop-count-test.true c.keep.ensures at.1 c.round-came.ensures c.if-came-n.false c.if-came-eq0.true
 
 pub loop-count-preserved : goal.loop-count-preserved
 loop-count-preserved c =
-    let tested = c in
-    let t = tested in
-    let at = t.loop-count.invariant in (
-      loop_goes_on at.0 t.loop-count-test.true t.keep.ensures at.1 t.round-came.ensures tested.if-came-n.false c.if-came-eq0.false,
+    let at = c.loop-count.invariant in (
+      loop_goes_on at.0 c.loop-count-test.true c.keep.ensures at.1 c.round-came.ensures c.if-came-n.false c.if-came-eq0.false,
       search rules,
     )
 

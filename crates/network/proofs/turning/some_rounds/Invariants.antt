@@ -11,5 +11,4 @@ invariant-loop-count l =
     Loop l.n l.most l.cells l.old l.new (length l.initial.onward) l.live l.count × (length l.onward ≡ length l.initial.onward)
 
 abbrev pub decreases-loop-count : goal.decreases-loop-count
-decreases-loop-count l =
-    l.most - l.count
+decreases-loop-count l = l.most - l.count

@@ -11,5 +11,4 @@ invariant-loop-i l =
     (l.i ≤ l.n) × (length l.cells ≡ length l.initial.cells) × (l.cells ≡ laid (l.i * l.n) (planes_matrix l.n l.planes) l.initial.cells)
 
 abbrev pub decreases-loop-i : goal.decreases-loop-i
-decreases-loop-i l =
-    l.n - l.i
+decreases-loop-i l = l.n - l.i

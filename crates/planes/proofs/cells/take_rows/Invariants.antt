@@ -11,5 +11,4 @@ invariant-loop-i l =
     (l.i ≤ l.n) × (length l.planes ≡ length l.initial.planes) × (l.planes ≡ laid (8 * l.i) (matrix_planes l.n l.cells) l.initial.planes)
 
 abbrev pub decreases-loop-i : goal.decreases-loop-i
-decreases-loop-i l =
-    l.n - l.i
+decreases-loop-i l = l.n - l.i

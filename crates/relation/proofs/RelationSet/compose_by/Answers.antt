@@ -1,5 +1,4 @@
 -- `relation::RelationSet::compose_by` meets its contract. The loop's invariant: union is the union over the members of other below q.
--- the row of the entries that begins at from
 use Prim.Native.Nat.{◌*◌}
 use mathlib.Core.Path.{sym, ◌∙◌}
 use native.Mathlib.Omega.{arith}
@@ -15,14 +14,13 @@ loop-q-init c = (search rules, upto_none c.args.other.0 (row c.args.entries.now 
 
 pub loop-q-preserved : goal.loop-q-preserved
 loop-q-preserved c =
-    let at = c in
-    let args = at.args in
+    let args = c.args in
     let s = args.other.0 in
     let f = row args.entries.now (8 * args.self.0) in (
       search rules,
       elim c.if-has.branch [
-        | then-has w ↦ w.union-is ∙ upto_taken s f at.loop-q.q at.loop-q.union at.loop-q.invariant.1 (sym c.has.ensures ∙ w.if-has.true)
-        | else-has w ↦ w.union-is ∙ upto_left s f at.loop-q.q at.loop-q.union at.loop-q.invariant.1 (sym c.has.ensures ∙ w.if-has.false)
+        | then-has w ↦ w.union-is ∙ upto_taken s f c.loop-q.q c.loop-q.union c.loop-q.invariant.1 (sym c.has.ensures ∙ w.if-has.true)
+        | else-has w ↦ w.union-is ∙ upto_left s f c.loop-q.q c.loop-q.union c.loop-q.invariant.1 (sym c.has.ensures ∙ w.if-has.false)
       ],
     )
 

@@ -1,5 +1,4 @@
 -- `relation::RelationSet::converse` meets its contract: a test at each of the 256 sets, which antt computes.
--- the digits as the code moves them
 use Prim.Native.Nat.{ℕ, ◌+◌, ◌*◌, ◌/◌, ◌%◌}
 use mathlib.Core.Bool.{Bool}
 use lib.Dec.{T, eqb, eqb→eq}
@@ -9,6 +8,7 @@ use Rattle.relation.proofs.Tests.{all, all_at}
 use Rattle.std.proofs.Common.{rules}
 use Rattle.relation.proofs.RelationSet.converse.Goals as goal
 
+-- the digits as the code moves them
 abbrev moved : ℕ → ℕ
 moved s = s / 128 * 128 + s / 8 % 4 * 32 + s / 32 % 4 * 8 + s % 8
 

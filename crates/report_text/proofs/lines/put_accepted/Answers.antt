@@ -4,9 +4,5 @@ use Rattle.report_text.proofs.lines.put_accepted.Goals as goal
 
 pub returns : goal.returns
 returns c =
-    let at_put_word2 = c in
-    let at_put_field2 = at_put_word2 in
-    let at_put_field = at_put_field2 in
-    let at_put_word = at_put_field in
-    line_begin at_put_word.put_word-word.ensures
-    (line_more at_put_field.put_field-first.ensures (line-end at_put_field2.put_field-second.ensures at_put_word2.put_word.ensures))
+    line_begin c.put_word-word.ensures
+    (line_more c.put_field-first.ensures (line-end c.put_field-second.ensures c.put_word.ensures))

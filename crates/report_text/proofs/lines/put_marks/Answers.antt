@@ -4,7 +4,4 @@ use Rattle.report_text.proofs.lines.put_marks.Goals as goal
 
 pub returns : goal.returns
 returns c =
-    let at_put_word = c in
-    let at_put_field2 = at_put_word in
-    let at_put_field = at_put_field2 in
-    (line_more at_put_field.put_field-next.ensures (line-end at_put_field2.put_field-last.ensures at_put_word.put_word.ensures)).adds
+    (line_more c.put_field-next.ensures (line-end c.put_field-last.ensures c.put_word.ensures)).adds

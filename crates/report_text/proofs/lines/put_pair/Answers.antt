@@ -7,15 +7,9 @@ use Rattle.report_text.proofs.lines.put_pair.Goals as goal
 
 pub returns : goal.returns
 returns c =
-    let at_put_marks = c in
-    let at_put_word = at_put_marks in
-    let at_class_of = at_put_word in
-    let at_put_field2 = at_class_of in
-    let at_put_field = at_put_field2 in
-    let at_put_decimal = at_put_field in
-    let a = at_put_decimal.args in
-    let marks : Further (decimal a.there ∷ decimal a.back ∷ []) _ _ _ _ = record { adds = at_put_marks.put_marks.ensures } in
-    rw (← at_class_of.class_of.ensures)
-    (line_begin at_put_decimal.put_decimal-next.ensures
-    (line_more at_put_field.put_field-next.ensures
-    (line_more at_put_field2.put_field-next-2.ensures (line_more (puts_adds at_put_word.put_word-next.ensures) marks))))
+    let a = c.args in
+    let marks : Further (decimal a.there ∷ decimal a.back ∷ []) _ _ _ _ = record { adds = c.put_marks.ensures } in
+    rw (← c.class_of.ensures)
+    (line_begin c.put_decimal-next.ensures
+    (line_more c.put_field-next.ensures
+    (line_more c.put_field-next-2.ensures (line_more (puts_adds c.put_word-next.ensures) marks))))

@@ -10,14 +10,12 @@ loop-p-init c = let a = c.args in
 
 pub loop-p-preserved : goal.loop-p-preserved
 loop-p-preserved c =
-    let at_put_cell = c in
-    let at_loop = at_put_cell in
-    let a = at_loop.args in
-    let inv = at_loop.loop-p.invariant in (
+    let a = c.args in
+    let inv = c.loop-p.invariant in (
       inv.0,
       record {
         within = omega arith;
-        long = at_put_cell.put_cell-next.auto.buffer ∙ inv.1.long;
-        lines = pairs_add_cell a.n a.identifiers.now a.arcs.now a.network.now a.marks.now _ inv.1.lines at_put_cell.put_cell-next.ensures;
+        long = c.put_cell-next.auto.buffer ∙ inv.1.long;
+        lines = pairs_add_cell a.n a.identifiers.now a.arcs.now a.network.now a.marks.now _ inv.1.lines c.put_cell-next.ensures;
       },
     )

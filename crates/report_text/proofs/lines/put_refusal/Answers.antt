@@ -4,13 +4,7 @@ use Rattle.report_text.proofs.lines.put_refusal.Goals as goal
 
 pub returns : goal.returns
 returns c =
-    let at_put_word2 = c in
-    let at_put_field4 = at_put_word2 in
-    let at_put_field3 = at_put_field4 in
-    let at_put_field2 = at_put_field3 in
-    let at_put_field = at_put_field2 in
-    let at_put_word = at_put_field in
-    line_begin at_put_word.put_word-word.ensures
-    (line_more at_put_field.put_field-at.ensures
-    (line_more at_put_field2.put_field-at-2.ensures
-    (line_more at_put_field3.put_field-at-3.ensures (line-end at_put_field4.put_field-at-4.ensures at_put_word2.put_word.ensures))))
+    line_begin c.put_word-word.ensures
+    (line_more c.put_field-at.ensures
+    (line_more c.put_field-at-2.ensures
+    (line_more c.put_field-at-3.ensures (line-end c.put_field-at-4.ensures c.put_word.ensures))))

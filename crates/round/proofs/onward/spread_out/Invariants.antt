@@ -11,5 +11,4 @@ invariant-loop-left l =
     Left l.left l.live × (length l.onward ≡ length l.initial.onward) × (visited (readying l.old) l.onward l.left ≡ visited (readying l.old) l.initial.onward l.live)
 
 abbrev pub decreases-loop-left : goal.decreases-loop-left
-decreases-loop-left l =
-    l.left
+decreases-loop-left l = l.left

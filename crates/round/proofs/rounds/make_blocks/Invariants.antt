@@ -4,9 +4,7 @@ use Rattle.round.proofs.Turning.{Turning}
 use Rattle.round.proofs.rounds.make_blocks.Given as goal
 
 abbrev pub invariant-loop-b : goal.invariant-loop-b
-invariant-loop-b l =
-    Turning l.n l.live l.old l.initial.new l.new l.changed l.b
+invariant-loop-b l = Turning l.n l.live l.old l.initial.new l.new l.changed l.b
 
 abbrev pub decreases-loop-b : goal.decreases-loop-b
-decreases-loop-b l =
-    l.n - l.b
+decreases-loop-b l = l.n - l.b

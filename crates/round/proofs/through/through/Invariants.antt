@@ -6,9 +6,7 @@ use Rattle.round.proofs.Going.{narrowing}
 use Rattle.round.proofs.through.through.Given as goal
 
 abbrev pub invariant-loop-left : goal.invariant-loop-left
-invariant-loop-left l =
-    Left l.left l.ks × (visited (narrowing l.w l.onward) l.all l.left ≡ visited (narrowing l.w l.onward) l.w l.ks)
+invariant-loop-left l = Left l.left l.ks × (visited (narrowing l.w l.onward) l.all l.left ≡ visited (narrowing l.w l.onward) l.w l.ks)
 
 abbrev pub decreases-loop-left : goal.decreases-loop-left
-decreases-loop-left l =
-    l.left
+decreases-loop-left l = l.left

@@ -12,5 +12,4 @@ invariant-loop-r l =
     (l.r ≤ 8) × (length l.all ≡ 8) × (take l.r l.all ≡ list_of l.r (λ i. cond (has (get_or l.w i 0) l.k) 18446744073709551615 empty))
 
 abbrev pub decreases-loop-r : goal.decreases-loop-r
-decreases-loop-r l =
-    8 - l.r
+decreases-loop-r l = 8 - l.r

@@ -5,9 +5,7 @@ use Rattle.round.proofs.Narrowing.{gathered}
 use Rattle.round.proofs.words.narrow.Given as goal
 
 abbrev pub invariant-loop-p : goal.invariant-loop-p
-invariant-loop-p l =
-    (l.p ≤ 8) × (l.one ≡ gathered l.a l.onward l.p)
+invariant-loop-p l = (l.p ≤ 8) × (l.one ≡ gathered l.a l.onward l.p)
 
 abbrev pub decreases-loop-p : goal.decreases-loop-p
-decreases-loop-p l =
-    8 - l.p
+decreases-loop-p l = 8 - l.p

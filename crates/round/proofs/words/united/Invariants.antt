@@ -11,5 +11,4 @@ invariant-loop-r l =
     (l.r ≤ 8) × (length l.more ≡ 8) × (take l.r l.more ≡ list_of l.r (λ k. bit_or (get_or l.one k 0) (bit_and l.left (get_or l.words k 0))))
 
 abbrev pub decreases-loop-r : goal.decreases-loop-r
-decreases-loop-r l =
-    8 - l.r
+decreases-loop-r l = 8 - l.r

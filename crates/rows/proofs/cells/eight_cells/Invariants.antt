@@ -6,9 +6,7 @@ use Rattle.lanes.specs.Lists.{list_of}
 use Rattle.rows.proofs.cells.eight_cells.Given as goal
 
 abbrev pub invariant-loop-g : goal.invariant-loop-g
-invariant-loop-g l =
-    (l.g ≤ 8) × (length l.b ≡ 8) × (take l.g l.b ≡ list_of l.g (λ k. get_or l.cells (l.at + k) 255))
+invariant-loop-g l = (l.g ≤ 8) × (length l.b ≡ 8) × (take l.g l.b ≡ list_of l.g (λ k. get_or l.cells (l.at + k) 255))
 
 abbrev pub decreases-loop-g : goal.decreases-loop-g
-decreases-loop-g l =
-    8 - l.g
+decreases-loop-g l = 8 - l.g

@@ -11,5 +11,4 @@ invariant-loop-at l =
     (l.at ≤ length l.initial.cells) × (length l.cells ≡ length l.initial.cells) × (take l.at l.cells ≡ list_of l.at (λ k. set_at l.w k))
 
 abbrev pub decreases-loop-at : goal.decreases-loop-at
-decreases-loop-at l =
-    length l.initial.cells - l.at
+decreases-loop-at l = length l.initial.cells - l.at

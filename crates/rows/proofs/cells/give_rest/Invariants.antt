@@ -10,5 +10,4 @@ invariant-loop-g l =
     (l.g ≤ length l.initial.cells) × (length l.cells ≡ length l.initial.cells) × (take l.g l.cells ≡ list_of l.g (λ k. get_or l.b k 0 % 256))
 
 abbrev pub decreases-loop-g : goal.decreases-loop-g
-decreases-loop-g l =
-    length l.initial.cells - l.g
+decreases-loop-g l = length l.initial.cells - l.g

@@ -11,5 +11,4 @@ invariant-loop-r l =
     (l.r ≤ 8) × (length l.more ≡ 8) × (take l.r l.more ≡ list_of l.r (λ k. bit_or (get_or l.w k 0) (get_or l.lanes k 0 * 2 ^ l.at % 2 ^ 64)))
 
 abbrev pub decreases-loop-r : goal.decreases-loop-r
-decreases-loop-r l =
-    8 - l.r
+decreases-loop-r l = 8 - l.r

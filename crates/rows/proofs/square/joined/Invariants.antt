@@ -5,9 +5,7 @@ use Rattle.rows.proofs.Turning.{joined_upto}
 use Rattle.rows.proofs.square.joined.Given as goal
 
 abbrev pub invariant-loop-g : goal.invariant-loop-g
-invariant-loop-g l =
-    (l.g ≤ 8) × (l.x ≡ joined_upto l.b l.g)
+invariant-loop-g l = (l.g ≤ 8) × (l.x ≡ joined_upto l.b l.g)
 
 abbrev pub decreases-loop-g : goal.decreases-loop-g
-decreases-loop-g l =
-    8 - l.g
+decreases-loop-g l = 8 - l.g

@@ -6,9 +6,7 @@ use Rattle.scene.proofs.Going.{Going}
 use Rattle.scene.proofs.records.read_records.Given as goal
 
 abbrev pub invariant-loop-identifier : goal.invariant-loop-identifier
-invariant-loop-identifier l =
-    Going l.scene l.identifiers l.cells l.marks l.at l.count l.statements
+invariant-loop-identifier l = Going l.scene l.identifiers l.cells l.marks l.at l.count l.statements
 
 abbrev pub decreases-loop-identifier : goal.decreases-loop-identifier
-decreases-loop-identifier l =
-    length l.scene - l.at
+decreases-loop-identifier l = length l.scene - l.at

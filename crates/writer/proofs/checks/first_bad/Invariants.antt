@@ -11,5 +11,4 @@ invariant-loop-place l =
     (l.place ≤ length l.identifiers) × ((k : ℕ) → k < l.place → (is_zero l.identifiers k || is_repeated l.identifiers k) ≡ false)
 
 abbrev pub decreases-loop-place : goal.decreases-loop-place
-decreases-loop-place l =
-    length l.identifiers - l.place
+decreases-loop-place l = length l.identifiers - l.place

@@ -12,5 +12,4 @@ invariant-loop-place l =
     × (l.buffer ≡ sets l.initial.buffer 0 (region_records (take l.place l.identifiers)))
 
 abbrev pub decreases-loop-place : goal.decreases-loop-place
-decreases-loop-place l =
-    length l.identifiers - l.place
+decreases-loop-place l = length l.identifiers - l.place

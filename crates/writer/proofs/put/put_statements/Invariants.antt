@@ -10,5 +10,4 @@ invariant-loop-p l =
     (l.p ≤ length l.cells) × (length l.buffer ≡ length l.initial.buffer) × Put l.n l.p l.identifiers l.cells l.initial.buffer l.start l.buffer l.at
 
 abbrev pub decreases-loop-p : goal.decreases-loop-p
-decreases-loop-p l =
-    length l.cells - l.p
+decreases-loop-p l = length l.cells - l.p
