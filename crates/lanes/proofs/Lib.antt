@@ -1,5 +1,6 @@
 -- lists and numbers by their entries and bits
 pub mod Lists
+pub mod Made
 pub mod Unions
 pub mod Sets
 -- the wiring of a relation
