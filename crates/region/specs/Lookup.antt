@@ -1,10 +1,7 @@
 -- Looking an identifier up: the only passage from an identifier to a place.
-use Rattle.std.specs.Prelude.{ℕ, min, cond, List, eqb, ltb, length, get_or}
-use Rattle.lists.specs.Least.{least}
+use Rattle.std.specs.Prelude.{ℕ, ◌==◌, List, Option, option_map, position, take}
 use Rattle.region.specs.declared.Identifier.{Identifier}
 use Rattle.region.specs.declared.Place.{Place}
-use Rattle.region.specs.declared.Found.{Found}
-use Rattle.region.specs.declared.Found.TheVariants.{At, Nothing}
 
 -- a number as a place
 abbrev pub place : ℕ → Place
@@ -14,16 +11,6 @@ place p = record { 0 = p }
 abbrev pub identifier : ℕ → Identifier
 identifier x = record { 0 = x }
 
--- how many of the entries count: the first `count`, or all where there are fewer
-abbrev pub entries_counted : List ℕ → ℕ → ℕ
-entries_counted identifiers count = min count (length identifiers)
-
--- the place of the first of those entries that holds the identifier
-unfoldable pub first_holding : List ℕ → ℕ → ℕ → ℕ
-first_holding identifiers count wanted = least (entries_counted identifiers count) (λ p. eqb (get_or identifiers p 0) wanted)
-
--- what looking up answers: that place, or nothing where no entry holds the identifier
-unfoldable pub lookup_of : List ℕ → ℕ → Identifier → Found
-lookup_of identifiers count wanted =
-    let p : ℕ = first_holding identifiers count wanted.0 in
-    cond (ltb p (entries_counted identifiers count)) (At (place p)) Nothing
+-- what looking up answers: the place of the first of the first `count` entries that holds the identifier, or none
+unfoldable pub lookup_of : List ℕ → ℕ → Identifier → Option Place
+lookup_of identifiers count wanted = option_map place (position (λ entry. entry == wanted.0) (take count identifiers))

@@ -1,13 +1,17 @@
--- `region::lookup` meets its contract. The loop's invariant: no entry before `at` holds the identifier.
-use native.Mathlib.Omega.{arith}
-use Rattle.region.proofs.LookupLaws.{finds_here, finds_nothing}
+-- `region::lookup` meets its contract: what the search through the first entries finds, as a place.
+use Rattle.std.proofs.Common.{rules, ℕ}
+use Rattle.std.specs.Prelude.{◌==◌}
+use Rattle.std.proofs.lemmas.Iterator.{YieldsList-from_slice, YieldsList-from_take}
+use Rattle.std.proofs.lemmas.Iterator.Consumers.{YieldsList-at}
+use Rattle.std.proofs.lemmas.Iterator.Search.{position_from_yields_List}
+use Rattle.region.specs.Lookup.{lookup_of}
 use Rattle.region.proofs.lookup.Goals as goal
 
-pub returns-then-identifiers-at : goal.returns-then-identifiers-at
-returns-then-identifiers-at c = finds_nothing _ _ _ _ (omega arith) c.loop-at.invariant.2
-
-pub returns-then-identifiers-at-2 : goal.returns-then-identifiers-at-2
-returns-then-identifiers-at-2 c = finds_here _ _ _ _ (omega arith) (omega arith) c.loop-at.invariant.2 c.if-identifiers-at-2.true
-
 pub returns : goal.returns
-returns c = finds_nothing _ _ _ _ (omega arith) c.loop-at.invariant.2
+unfolding lookup_of
+returns c =
+    let all = YieldsList-at c.take.ensures.source (YieldsList-from_slice _ c.iter.ensures.rest) in
+    let first = YieldsList-from_take _ all c.take.ensures.count in
+    let test = λ (entry : ℕ). entry == c.args.wanted.0 in
+    let found = position_from_yields_List test _ _ _ c.position.ensures.ran first (λ x b q k. search rules) in
+    rw (← found) (search (rules, c.map.ensures))
