@@ -4,6 +4,7 @@ use mathlib.Core.List.{List}
 use Prim.Native.Nat.{ℕ, ◌*◌, ◌≤◌, ◌<◌}
 use native.Mathlib.Omega.{arith}
 use lib.ListN.{length, take}
+use Rattle.std.specs.Prelude.{Result, Ok, Err}
 use Rattle.answer.specs.Answer.{Answer, refuses}
 use Rattle.answer.specs.Ending.{Ending, answered}
 use Rattle.matrix.specs.Square.{most_regions}
@@ -18,8 +19,8 @@ use Rattle.scene.specs.Format.{most_bytes}
 use Rattle.scene.specs.Reading.{accepted_said, refused_at, read_scene, read_of}
 use Rattle.scene.specs.Numbers.{number_of, answer_of}
 use Rattle.scene.specs.Reads.{Reads, starting_cell, areas_after}
-use Rattle.scene.specs.declared.Reading.{Reading}
-use Rattle.scene.specs.declared.Reading.TheVariants.{Accepted, WrongLength, TooLong, Refused}
+use Rattle.scene.specs.declared.Unread.{Unread}
+use Rattle.scene.specs.declared.Unread.TheVariants.{WrongLength, TooLong, Refused}
 use Rattle.scene.specs.declared.Refusal.{Refusal}
 use Rattle.scene.proofs.Numbered.{numbered, is_no_length}
 use Rattle.scene.proofs.Reasons.{because, refused_numbered, named_within}
@@ -64,15 +65,15 @@ pub record AcceptedSo (ending : Ending Said) (count : ℕ) : Type 0 where
   pub is : ending ≡ accepted_said said
   pub counted : regions said ≡ count
 
-abbrev pub Tells : Reading → Ending Said → Type 0
-Tells (Accepted count) ending = AcceptedSo ending count
-Tells WrongLength ending = ending ≡ refused_at 2 0
-Tells TooLong ending = ending ≡ refused_at 3 most_bytes
-Tells (Refused refusal offset) ending = ending ≡ refused_at (number_of refusal) offset
+abbrev pub Tells : Result ℕ Unread → Ending Said → Type 0
+Tells (Ok count) ending = AcceptedSo ending count
+Tells (Err WrongLength) ending = ending ≡ refused_at 2 0
+Tells (Err TooLong) ending = ending ≡ refused_at 3 most_bytes
+Tells (Err (Refused refusal offset)) ending = ending ≡ refused_at (number_of refusal) offset
 
 -- an answer tells the ending
 abbrev Told : Ending Said → Type 0
-Told ending = (reading : Reading) → answer_of reading ≡ answered ending → Tells reading ending
+Told ending = (reading : Result ℕ Unread) → answer_of reading ≡ answered ending → Tells reading ending
 
 number_same : (number offset other elsewhere : ℕ) → refuses number offset ≡ refuses other elsewhere
     → refused_at other elsewhere ≡ refused_at number offset
@@ -82,24 +83,24 @@ number_same number offset other elsewhere e =
     rw (same_number, same_offset)
 
 told-accepted : (said : Said) → Told (accepted_said said)
-told-accepted said (Accepted count) e = record { said = said; is = refl; counted = sym (ap (λ (a : Answer). a.count) e) }
-told-accepted said WrongLength e = absurd (omega (arith, ap (λ (a : Answer). a.number) e))
-told-accepted said TooLong e = absurd (omega (arith, ap (λ (a : Answer). a.number) e))
-told-accepted said (Refused refusal at) e = absurd (omega (arith, (numbered refusal).positive, ap (λ (a : Answer). a.number) e))
+told-accepted said (Ok count) e = record { said = said; is = refl; counted = sym (ap (λ (a : Answer). a.count) e) }
+told-accepted said (Err WrongLength) e = absurd (omega (arith, ap (λ (a : Answer). a.number) e))
+told-accepted said (Err TooLong) e = absurd (omega (arith, ap (λ (a : Answer). a.number) e))
+told-accepted said (Err (Refused refusal at)) e = absurd (omega (arith, (numbered refusal).positive, ap (λ (a : Answer). a.number) e))
 
 -- a refusal's number is not 0, so an acceptance is told apart
 told_refused : (number offset : ℕ) → 0 < number → Told (refused_at number offset)
-told_refused number offset h (Accepted count) e = absurd (omega (arith, ap (λ (a : Answer). a.number) e))
-told_refused number offset h WrongLength e = number_same 2 0 number offset e
-told_refused number offset h TooLong e = number_same 3 most_bytes number offset e
-told_refused number offset h (Refused refusal at) e = number_same (number_of refusal) at number offset e
+told_refused number offset h (Ok count) e = absurd (omega (arith, ap (λ (a : Answer). a.number) e))
+told_refused number offset h (Err WrongLength) e = number_same 2 0 number offset e
+told_refused number offset h (Err TooLong) e = number_same 3 most_bytes number offset e
+told_refused number offset h (Err (Refused refusal at)) e = number_same (number_of refusal) at number offset e
 
 told_ended : {scene : List ℕ} {ending : Ending Said} → Ended scene ending → Told ending
 told_ended (at_end at said r e) = told-accepted said
 told_ended {scene} (at_refusal at said number offset r e) =
     told_refused number offset (refused_numbered (because scene said at e)).positive
 
-pub tells : (scene : List ℕ) (areas : Areas) (reading : Reading) → answer_of reading ≡ answered (read_of scene areas)
+pub tells : (scene : List ℕ) (areas : Areas) (reading : Result ℕ Unread) → answer_of reading ≡ answered (read_of scene areas)
     → Tells reading (read_of scene areas)
 tells scene areas reading e =
     all_cases Told scene areas (told_refused 2 0 (omega arith)) (told_refused 3 most_bytes (omega arith))
@@ -148,14 +149,14 @@ pub record WrongLeaves (scene : List ℕ) (before after : Areas) : Type 0 where
   pub areas_are : after ≡ before
 
 module _ {scene : List ℕ} {before after : Areas} where
-  after_is : {reading : Reading} {ending : Ending Said} → Reads scene before after reading → read_of scene before ≡ ending
+  after_is : {reading : Result ℕ Unread} {ending : Ending Said} → Reads scene before after reading → read_of scene before ≡ ending
       → after ≡ areas_after ending before
   after_is r e = r.areas ∙ ap (λ (o : Ending Said). areas_after o before) e
 
-  pub accepted-leaves : {n : ℕ} → Reads scene before after (Accepted n) → AcceptedLeaves scene before after n
+  pub accepted-leaves : {n : ℕ} → Reads scene before after (Ok n) → AcceptedLeaves scene before after n
   unfolding areas_after
   accepted-leaves {n} r =
-      let t = tells scene before (Accepted n) r.answer in
+      let t = tells scene before (Ok n) r.answer in
       let said = t.said in
       let lent = accepted-lent scene before t.is in
       let alone = accepted_scene scene before t.is in
@@ -187,19 +188,19 @@ module _ {scene : List ℕ} {before after : Areas} where
             (length-grid n (mark_of starting_cell said.statements)) marks;
       }
 
-  pub refused_leaves : {refusal : Refusal} {offset : ℕ} → Reads scene before after (Refused refusal offset)
+  pub refused_leaves : {refusal : Refusal} {offset : ℕ} → Reads scene before after (Err (Refused refusal offset))
       → RefusedLeaves scene before after (number_of refusal) offset
   unfolding areas_after
   refused_leaves {refusal} {offset} r =
-      let e = tells scene before (Refused refusal offset) r.answer in
+      let e = tells scene before (Err (Refused refusal offset)) r.answer in
       record { ending = e; areas_are = after_is r e ∙ rw (is_no_length (numbered refusal)) }
 
-  pub too_long_leaves : Reads scene before after TooLong → RefusedLeaves scene before after 3 most_bytes
+  pub too_long_leaves : Reads scene before after (Err TooLong) → RefusedLeaves scene before after 3 most_bytes
   unfolding areas_after
   too_long_leaves r =
-      let e = tells scene before TooLong r.answer in record { ending = e; areas_are = after_is r e }
+      let e = tells scene before (Err TooLong) r.answer in record { ending = e; areas_are = after_is r e }
 
-  pub wrong_length_leaves : Reads scene before after WrongLength → WrongLeaves scene before after
+  pub wrong_length_leaves : Reads scene before after (Err WrongLength) → WrongLeaves scene before after
   unfolding areas_after
   wrong_length_leaves r =
-      let e = tells scene before WrongLength r.answer in record { ending = e; areas_are = after_is r e }
+      let e = tells scene before (Err WrongLength) r.answer in record { ending = e; areas_are = after_is r e }

@@ -7,6 +7,7 @@ use lib.ListN.{length, get_or, take}
 use contract.Lifetimes.{Lfts}
 use denote.Triple.Clauses.{AtExit}
 use borrow.Fn.Kinds.{Dens, res_t, ended_of}
+use Rattle.std.specs.Prelude.{Result, Ok, Err}
 use Rattle.answer.specs.Ending.{answered}
 use Rattle.relation.specs.Sets.{universal}
 use Rattle.matrix.specs.Cells.{cell}
@@ -20,8 +21,8 @@ use Rattle.scene.specs.Reads.{Reads, starting_cell}
 use Rattle.scene.specs.Reached.{Reached, Region}
 use Rattle.scene.specs.Different.{Different}
 use Rattle.scene.specs.Spoken.{spoken, among, MarkedBy}
-use Rattle.scene.specs.declared.Reading.{Reading}
-use Rattle.scene.specs.declared.Reading.TheVariants.{Accepted, Refused}
+use Rattle.scene.specs.declared.Unread.{Unread}
+use Rattle.scene.specs.declared.Unread.TheVariants.{Refused}
 use Rattle.scene.specs.declared.Refusal.TheVariants.{DeclaredTwice}
 use Rattle.scene.proofs.Endings.{within_limit, right-areas}
 use Rattle.scene.proofs.Different.{accepted_different, twice_refused}
@@ -32,7 +33,7 @@ use Rattle.scene.proofs.Unique.{answer_tells}
 use Rattle.scene.proofs.read.Kinds as kinds
 use Rattle.scene.proofs.read.Reads.{Post}
 
-module _ {scene : List ℕ} {before after : Areas} {n : ℕ} (r : Reads scene before after (Accepted n)) where
+module _ {scene : List ℕ} {before after : Areas} {n : ℕ} (r : Reads scene before after (Ok n)) where
   -- no two regions share an identifier, and none is 0
   pub reads_different : Different (take n after.identifiers)
   reads_different = let left = accepted-leaves r in rw left.identifiers_front (accepted_different scene left.alone)
@@ -81,20 +82,20 @@ module _ {scene : List ℕ} {before after : Areas} {n : ℕ} (r : Reads scene be
       (mark_small scene left.alone i j (omega (arith, left.counted)) (omega (arith, left.counted)))
 
 -- an identifier that is declared again is refused, with 7 at the second record, and the areas are all 0
-pub reads_twice : {scene : List ℕ} {before after : Areas} {reading : Reading} {at name : ℕ} {said : Said}
+pub reads_twice : {scene : List ℕ} {before after : Areas} {reading : Result ℕ Unread} {at name : ℕ} {said : Said}
     → Reads scene before after reading → Lent before → length scene ≤ most_bytes → Reached scene at said → Region scene at name
     → (k : ℕ) → k < regions said → get_or said.identifiers k 0 ≡ name
-    → (reading ≡ Refused DeclaredTwice at) × (after ≡ emptied before)
+    → (reading ≡ Err (Refused DeclaredTwice at)) × (after ≡ emptied before)
 reads_twice {scene} {before} {after} {reading} {at} r lent short reached region k l e =
     let ending = right-areas scene lent ∙ within_limit scene short ∙ twice_refused reached region k l e in
-    let told : reading ≡ Refused DeclaredTwice at =
-    answer_tells reading (Refused DeclaredTwice at) (r.answer ∙ ap answered ending) in
+    let told : reading ≡ Err (Refused DeclaredTwice at) =
+    answer_tells reading (Err (Refused DeclaredTwice at)) (r.answer ∙ ap answered ending) in
     (told, (refused_leaves (rw told at r)).areas_are)
 
 -- ---- about the generated Post of `read`
 
 module _ (κs : Lfts 4) (a : Dens κs kinds.ps) (r : (res_t kinds.r κs).Denot) (s : AtExit (ended_of 4 kinds.ps kinds.r) κs) (post : Post κs a r s)
-    (n : ℕ) (accepts : r ≡ Accepted n) where
+    (n : ℕ) (accepts : r ≡ Ok n) where
   pub read_different : Different (take n s.1.0.now)
   read_different = reads_different (rw accepts at post)
 
@@ -120,7 +121,7 @@ pub read_twice : (κs : Lfts 4) (a : Dens κs kinds.ps) (r : (res_t kinds.r κs)
     → {at name : ℕ} {said : Said} → Lent (holding a.1.0.now a.1.1.0.now a.1.1.1.0.now) → length a.0.now ≤ most_bytes
     → Reached a.0.now at said → Region a.0.now at name
     → (k : ℕ) → k < regions said → get_or said.identifiers k 0 ≡ name
-    → (r ≡ Refused DeclaredTwice at)
+    → (r ≡ Err (Refused DeclaredTwice at))
     × (holding s.1.0.now s.1.1.0.now s.1.1.1.0.now
     ≡ emptied (holding a.1.0.now a.1.1.0.now a.1.1.1.0.now))
 read_twice κs a r s post lent short reached region k l e = reads_twice post lent short reached region k l e

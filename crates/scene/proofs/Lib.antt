@@ -12,7 +12,6 @@ pub mod Marked
 pub mod Small
 -- what a refused one is like
 pub mod Behind
-pub mod Spanning
 -- the calls: what they leave is what they promise, and what that tells a caller
 pub mod Going
 pub mod Promised

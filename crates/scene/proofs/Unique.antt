@@ -6,12 +6,13 @@ use lib.ListN.{get_or}
 use contract.Lifetimes.{Lfts}
 use denote.Triple.Clauses.{AtExit}
 use borrow.Fn.Kinds.{Dens, res_t, ended_of}
+use Rattle.std.specs.Prelude.{Result, Ok, Err}
 use Rattle.answer.specs.Answer.{Answer}
 use Rattle.answer.proofs.Unique.{told_one}
 use Rattle.filing.proofs.Unique.{each_area}
 use Rattle.scene.specs.Numbers.{answer_of}
-use Rattle.scene.specs.declared.Reading.{Reading}
-use Rattle.scene.specs.declared.Reading.TheVariants.{Accepted, WrongLength, TooLong, Refused}
+use Rattle.scene.specs.declared.Unread.{Unread}
+use Rattle.scene.specs.declared.Unread.TheVariants.{WrongLength, TooLong, Refused}
 use Rattle.scene.specs.declared.Refusal.{Refusal}
 use Rattle.scene.specs.declared.Refusal.TheVariants.{NoRegion, CutShort, UnknownKind, IdentifierZero, DeclaredTwice}
 use Rattle.scene.specs.declared.Refusal.TheVariants.{TooManyRegions, NotDeclared, EmptySet, BytesLeft}
@@ -35,26 +36,26 @@ pub refused_record_unique : (κs : Lfts 1) (a : Dens κs part-kinds.ps) (r r' : 
 refused_record_unique κs a r r' s s' p q = (p.bytes ∙ sym q.bytes, p.itself ∙ sym q.itself)
 
 -- the reading that an answer stands for: by its number, from 0
-reading_of : Answer → Reading
+reading_of : Answer → Result ℕ Unread
 reading_of a =
     get_or
-    (Accepted a.count
-    ∷ Refused NoRegion a.first
-    ∷ WrongLength
-    ∷ TooLong
-    ∷ Refused CutShort a.first
-    ∷ Refused UnknownKind a.first
-    ∷ Refused IdentifierZero a.first
-    ∷ Refused DeclaredTwice a.first
-    ∷ Refused TooManyRegions a.first
-    ∷ Refused NotDeclared a.first
-    ∷ Refused EmptySet a.first
-    ∷ Refused BytesLeft a.first
+    (Ok a.count
+    ∷ Err (Refused NoRegion a.first)
+    ∷ Err WrongLength
+    ∷ Err TooLong
+    ∷ Err (Refused CutShort a.first)
+    ∷ Err (Refused UnknownKind a.first)
+    ∷ Err (Refused IdentifierZero a.first)
+    ∷ Err (Refused DeclaredTwice a.first)
+    ∷ Err (Refused TooManyRegions a.first)
+    ∷ Err (Refused NotDeclared a.first)
+    ∷ Err (Refused EmptySet a.first)
+    ∷ Err (Refused BytesLeft a.first)
     ∷ [])
     a.number
-    WrongLength
+    (Err WrongLength)
 
-refused_back : (refusal : Refusal) (offset : ℕ) → reading_of (answer_of (Refused refusal offset)) ≡ Refused refusal offset
+refused_back : (refusal : Refusal) (offset : ℕ) → reading_of (answer_of (Err (Refused refusal offset))) ≡ Err (Refused refusal offset)
 unfolding reading_of
 refused_back NoRegion offset = refl
 refused_back CutShort offset = refl
@@ -66,15 +67,15 @@ refused_back NotDeclared offset = refl
 refused_back EmptySet offset = refl
 refused_back BytesLeft offset = refl
 
-reading_back : (reading : Reading) → reading_of (answer_of reading) ≡ reading
+reading_back : (reading : Result ℕ Unread) → reading_of (answer_of reading) ≡ reading
 unfolding reading_of
-reading_back (Accepted regions) = refl
-reading_back WrongLength = refl
-reading_back TooLong = refl
-reading_back (Refused refusal offset) = refused_back refusal offset
+reading_back (Ok regions) = refl
+reading_back (Err WrongLength) = refl
+reading_back (Err TooLong) = refl
+reading_back (Err (Refused refusal offset)) = refused_back refusal offset
 
 -- so two readings with the same answer are the same
-pub answer_tells : (reading other : Reading) → answer_of reading ≡ answer_of other → reading ≡ other
+pub answer_tells : (reading other : Result ℕ Unread) → answer_of reading ≡ answer_of other → reading ≡ other
 answer_tells reading other e = sym (reading_back reading) ∙ ap reading_of e ∙ reading_back other
 
 pub read_unique : (κs : Lfts 4) (a : Dens κs read-kinds.ps) (r r' : (res_t read-kinds.r κs).Denot)

@@ -1,5 +1,6 @@
 -- What the functions inside the crate need and promise; no public contract cites it.
-use Rattle.std.specs.Prelude.{◌≡◌, List, ℕ, ◌+◌, ◌≤◌, ◌<◌, length}
+use Rattle.std.specs.Prelude.{◌≡◌, List, ℕ, ◌+◌, ◌≤◌, ◌<◌, Result, Ok, Err, length}
+use Rattle.std.specs.declared.ops.Range.{Range}
 use Rattle.answer.specs.Ending.{Ending}
 use Rattle.filing.specs.Said.{Said, silent}
 use Rattle.filing.specs.Areas.{Areas, Lent}
@@ -8,9 +9,8 @@ use Rattle.scene.specs.Record.{Judged, declares, states, ends, fails}
 use Rattle.scene.specs.Reading.{accepted_said, refused_at}
 use Rattle.scene.specs.Numbers.{number_of}
 use Rattle.scene.specs.Span.{span_start, span_length}
-use Rattle.scene.specs.declared.Reading.{Reading}
-use Rattle.scene.specs.declared.Reading.TheVariants as reading
-use Rattle.scene.specs.declared.span.Span.{Span}
+use Rattle.scene.specs.declared.Unread.{Unread}
+use Rattle.scene.specs.declared.Unread.TheVariants as unread
 use Rattle.scene.specs.declared.record.Record.{Record}
 use Rattle.scene.specs.declared.record.Record.TheVariants.{Region, Statement, End, Refused}
 
@@ -32,14 +32,14 @@ pub record Readable (scene : List ℕ) (areas : Areas) : Type 0 where
   pub scene_short : length scene ≤ most_bytes
 
 -- the ending that refuses the same record as a reading; areas of the wrong length refuse none
-abbrev pub ending_of : Reading → Ending Said
-ending_of (reading.Accepted regions) = accepted_said silent
-ending_of reading.WrongLength = accepted_said silent
-ending_of reading.TooLong = refused_at 3 most_bytes
-ending_of (reading.Refused refusal offset) = refused_at (number_of refusal) offset
+abbrev pub ending_of : Result ℕ Unread → Ending Said
+ending_of (Ok regions) = accepted_said silent
+ending_of (Err unread.WrongLength) = accepted_said silent
+ending_of (Err unread.TooLong) = refused_at 3 most_bytes
+ending_of (Err (unread.Refused refusal offset)) = refused_at (number_of refusal) offset
 
 -- the refused record's bytes by their beginning and their end
-pub record Spans (scene : List ℕ) (ending : Ending Said) (span : Span) : Type 0 where
+pub record Spans (scene : List ℕ) (ending : Ending Said) (span : Range ℕ) : Type 0 where
   pub start : span.start ≡ span_start scene ending
   pub end : span.end ≡ span_start scene ending + span_length scene ending
   pub within : span.end ≤ length scene

@@ -20,7 +20,7 @@ use records::read_records;
 use span::span_of;
 
 // Why a record is refused.
-#[derive(Clone, Copy)]
+#[derive(Clone, Copy, PartialEq, Eq, Debug)]
 pub enum Refusal {
     NoRegion,
     CutShort,
@@ -52,31 +52,35 @@ impl Refusal {
     }
 }
 
-#[derive(Clone, Copy)]
-pub enum Reading {
-    // Read to its end, with so many regions.
-    Accepted(usize),
+// Why a scene is not read.
+#[derive(Clone, Copy, PartialEq, Eq, Debug)]
+pub enum Unread {
     // The lent identifiers are not 64, or the cells or their marks not 4,096.
     WrongLength,
     // The scene has more than 32,768 bytes.
     TooLong,
-    // Refused, at this byte of the scene.
+    // A record is refused, at this byte of the scene.
     Refused(Refusal, usize),
 }
 
-// Reads a scene into 64 identifiers and 4,096 cells with a mark for each: the first n identifiers, and cells and marks in rows of n. A
-// mark is the number of the last statement that removed a relation from the cell.
+// Reads a scene of n regions into 64 identifiers and 4,096 cells with a mark for each: the first n identifiers, and cells and marks in
+// rows of n. A mark is the number of the last statement that removed a relation from the cell.
 #[tactic(auto, unfolding(crate::specs::Reading::read_of, crate::specs::Reading::read_scene, crate::specs::Reads::areas_after))]
-pub fn read(scene: &[u8], identifiers: &mut [u32], cells: &mut [u8], marks: &mut [u16]) -> Reading
+pub fn read(
+    scene: &[u8],
+    identifiers: &mut [u32],
+    cells: &mut [u8],
+    marks: &mut [u16],
+) -> Result<usize, Unread>
     ensures { Reads scene.now (holding identifiers.old cells.old marks.old)
         (holding identifiers.new cells.new marks.new) result }
 {
     if !filing::are_lent(identifiers, cells, marks) {
-        return Reading::WrongLength;
+        return Err(Unread::WrongLength);
     }
     if MOST_BYTES < scene.len() {
         filing::clear(identifiers, cells, marks);
-        return Reading::TooLong;
+        return Err(Unread::TooLong);
     }
     read_records(scene, identifiers, cells, marks)
 }
@@ -90,7 +94,5 @@ pub fn refused_record(scene: &[u8]) -> &[u8]
     let mut cells = [0u8; LENT_CELLS];
     let mut marks = [0u16; LENT_CELLS];
     let span = span_of(scene, read(scene, &mut identifiers, &mut cells, &mut marks));
-    let start = span.start;
-    let end = span.end;
-    &scene[start..end]
+    &scene[span]
 }

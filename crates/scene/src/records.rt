@@ -3,7 +3,7 @@ ghost use Rattle.filing.specs.Areas.{holding};
 ghost use Rattle.scene.specs.Reads.{Reads};
 ghost use Rattle.scene.specs.Inner.{Readable};
 
-use crate::Reading;
+use crate::Unread;
 use crate::format::{REGION_BYTES, STATEMENT_BYTES};
 use crate::record::{Record, record_at};
 use region::Place;
@@ -15,7 +15,7 @@ pub(crate) fn read_records(
     identifiers: &mut [u32],
     cells: &mut [u8],
     marks: &mut [u16],
-) -> Reading
+) -> Result<usize, Unread>
     requires { Readable scene.now (holding identifiers.old cells.old marks.old) }
     ensures { Reads scene.now (holding identifiers.old cells.old marks.old)
         (holding identifiers.new cells.new marks.new) result }
@@ -40,11 +40,11 @@ pub(crate) fn read_records(
             Record::End => {
                 filing::pack(cells, count);
                 filing::pack_marks(marks, count);
-                return Reading::Accepted(count);
+                return Ok(count);
             }
             Record::Refused(refusal, offset) => {
                 filing::clear(identifiers, cells, marks);
-                return Reading::Refused(refusal, offset);
+                return Err(Unread::Refused(refusal, offset));
             }
         }
     }
