@@ -11,7 +11,8 @@ use Rattle.std.specs.Array.{IsFromFnResultFrom, IsFromFnResult, MapsFrom, IsMapO
 use Rattle.lanes.specs.Lists.{list_of}
 use Rattle.lanes.proofs.Lists.{list_length, list_at}
 
-by_places : (n : ℕ) (rule : ℕ → ℕ) (ys : List ℕ) → length ys ≡ n → ((k : ℕ) → k < n → get_or ys k 0 ≡ rule k) → ys ≡ list_of n rule
+-- a list is by a rule where each of its places is
+pub by_places : (n : ℕ) (rule : ℕ → ℕ) (ys : List ℕ) → length ys ≡ n → ((k : ℕ) → k < n → get_or ys k 0 ≡ rule k) → ys ≡ list_of n rule
 by_places n rule ys long each =
     ext_get_or 0 ys (list_of n rule) (long ∙ sym (list_length n rule))
     (λ k h. let l : k < n = omega arith in each k l ∙ sym (list_at n rule k l))

@@ -2,14 +2,15 @@
 use Prim.Native.Nat.{ℕ, zero, suc, ◌+◌, ◌*◌, ◌-◌, ◌/◌, ◌%◌, ◌^◌, ◌<◌, ◌≤◌}
 use mathlib.Core.Path.{◌≡◌, refl, sym, ap, ap₂, ◌∙◌}
 use mathlib.Core.Bool.{Bool, true, false, ◌||◌, or-false}
-use mathlib.Core.List.{List, [], ◌∷◌}
-use native.Mathlib.Nat.{mod-lt, mod-eq_of_lt, not-suc-le-zero, le_of_suc-le-suc, le_refl}
+use mathlib.Core.List.{List, [], ◌∷◌, ◌++◌}
+use native.Mathlib.Nat.{mod-lt, not-suc-le-zero, le_of_suc-le-suc, le_refl}
 use native.Mathlib.Decide.{dec_lt}
 use native.Mathlib.Omega.{arith}
 use borrow.Author.Tests.{le-leb, lt-leb}
 use lib.Bits.{bit_or}
 use lib.Dec.{T}
-use lib.ListN.{length, get_or, replicate, get_or-eq_default, get_or-replicate}
+use lib.Seq.{take_at, take-take}
+use lib.ListN.{length, get_or, take, replicate, get_or-eq_default}
 use lib.Pow.{shl_exact, pow_pos}
 use Rattle.relation.specs.Sets.{has, universal, union_of}
 use Rattle.relation.proofs.Tests.{same, all, all_at}
@@ -17,12 +18,13 @@ use Rattle.relation.proofs.Member.{ext, has-unite}
 use Rattle.lists.specs.Tabled.{tabled}
 use Rattle.lanes.specs.Lists.{list_of, mask_of}
 use Rattle.lanes.specs.Words.{set_at}
-use Rattle.lanes.proofs.Lists.{list_at, list_same, list_of_words}
+use Rattle.lanes.proofs.Lists.{list_length, list_at, list_same, list_of_words, list_split, part_stored}
+use Rattle.lanes.proofs.Made.{by_places}
 use Rattle.lanes.proofs.Sets.{has_mask, mask_below, set_is}
 use Rattle.lanes.proofs.Shifts.{has_shr, has_shl, has_shl_below, has-low, has_beyond}
 use Rattle.lanes.proofs.Digits.{all_ones}
 use Rattle.rows.specs.Rows.{row_words, row_cells, row_after}
-use Rattle.rows.specs.Inner.{turned_of, lanes_from}
+use Rattle.rows.specs.Inner.{turned_of, eight_from}
 
 -- ---- a number by its bits, some of them more from place n on
 
@@ -73,17 +75,18 @@ eight_more test eight n h e =
     up_at (mask_of 8 eight) n i a ∙ has_mask 8 eight (i - n) (omega arith) ∙ e (i - n) (omega arith) ∙ ap test place)
     (λ i a. up_at (mask_of 8 eight) n i (omega arith) ∙ has_beyond (mask_of 8 eight) 8 (i - n) small (omega arith))
 
-pub row_more : (cells w b t : List ℕ) (n : ℕ) → n ≤ 56 → w ≡ row_upto cells n → b ≡ list_of 8 (λ g. get_or cells (n + g) universal)
-    → t ≡ turned_of b
-    → list_of 8 (λ k. bit_or (get_or w k 0) (get_or t k 0 * 2 ^ n % 2 ^ 64)) ≡ row_upto cells (n + 8)
+pub row_more : (cells w b t : List ℕ) (n next : ℕ) → n ≤ 56 → next ≡ n + 8 → w ≡ row_upto cells n
+    → b ≡ list_of 8 (λ g. get_or cells (n + g) universal) → t ≡ turned_of b
+    → list_of 8 (λ k. bit_or (get_or w k 0) (get_or t k 0 * 2 ^ n % 2 ^ 64)) ≡ row_upto cells next
 unfolding row_upto turned_of
-row_more cells w b t n h e q u =
+row_more cells w b t n next h s e q u =
+    rw s (
     list_same 8 _ _ (λ r l.
     ap₂ (λ (x y : ℕ). bit_or x (y * 2 ^ n % 2 ^ 64))
     (ap (λ (w : List ℕ). get_or w r 0) e ∙ list_at 8 (λ r. mask_of n (λ j. has (get_or cells j universal) r)) r l)
     (ap (λ (w : List ℕ). get_or w r 0) u ∙ list_at 8 (λ r. mask_of 8 (λ g. has (get_or b g 0) r)) r l)
     ∙ eight_more (λ j. has (get_or cells j universal) r) (λ g. has (get_or b g 0) r) n h
-    (λ g m. ap (λ (x : ℕ). has x r) (ap (λ (w : List ℕ). get_or w g 0) q ∙ list_at 8 (λ g. get_or cells (n + g) universal) g m)))
+    (λ g m. ap (λ (x : ℕ). has x r) (ap (λ (w : List ℕ). get_or w g 0) q ∙ list_at 8 (λ g. get_or cells (n + g) universal) g m))))
 
 pub row_all : (cells w : List ℕ) (n : ℕ) → n ≡ 64 → w ≡ row_upto cells n → w ≡ row_words cells
 unfolding row_upto row_words
@@ -99,13 +102,12 @@ in_universal : (r : ℕ) → r < 8 → has universal r ≡ true
 in_universal r h = same (has universal r) true (λ t. tt) (λ t. universal-has r h)
 
 pub row_rest : (cells w : List ℕ) (n : ℕ) → n < 64 → length cells ≤ n → w ≡ row_upto cells n
-    → list_of 8 (λ k. bit_or (get_or w k 0) (get_or (replicate {A = ℕ} 8 18446744073709551615) k 0 * 2 ^ n % 2 ^ 64)) ≡ row_words cells
+    → list_of 8 (λ k. bit_or (get_or w k 0) (18446744073709551615 * 2 ^ n % 2 ^ 64)) ≡ row_words cells
 unfolding row_upto row_words
 row_rest cells w n h past e =
     list_same 8 _ _ (λ r l.
-    ap₂ (λ (x y : ℕ). bit_or x (y * 2 ^ n % 2 ^ 64))
+    ap (λ (x : ℕ). bit_or x (18446744073709551615 * 2 ^ n % 2 ^ 64))
     (ap (λ (w : List ℕ). get_or w r 0) e ∙ list_at 8 (λ r. mask_of n (λ j. has (get_or cells j universal) r)) r l)
-    (get_or-replicate {A = ℕ} 8 r 18446744073709551615 0 l)
     ∙ joined_bits (λ j. has (get_or cells j universal) r) n 64 (18446744073709551615 * 2 ^ n % 2 ^ 64) (omega arith)
     (λ i a. has-low (18446744073709551615 * 2 ^ n) 64 i (omega arith) ∙ has_shl_below 18446744073709551615 n i a)
     (λ i a b. has-low (18446744073709551615 * 2 ^ n) 64 i b ∙ up_at 18446744073709551615 n i a ∙ all_ones (i - n) (omega arith)
@@ -114,23 +116,36 @@ row_rest cells w n h past e =
 
 -- ---- the cells of a row, eight at a time
 
--- lane at + g of w is word g of what the lanes from at on turn to
-lane_word : (w rest b : List ℕ) (at g : ℕ) → rest ≡ lanes_from at w → b ≡ turned_of rest → g < 8
-    → get_or b g 0 % 256 ≡ set_at w (at + g)
-unfolding turned_of lanes_from
-lane_word w rest b at g e u h =
-    let small = mask_below 8 (λ k. has (get_or rest k 0) g) 8 (le_refl 8) in
-    ap (λ (x : List ℕ). get_or x g 0 % 256) u
-    ∙ ap (λ (x : ℕ). x % 256) (list_at 8 (λ r. mask_of 8 (λ k. has (get_or rest k 0) r)) g h) ∙ mod-eq_of_lt small
-    ∙ sym (set_is w (at + g) (mask_of 8 (λ k. has (get_or rest k 0) g)) small (λ r l.
-    sym (has_mask 8 (λ k. has (get_or rest k 0) g) r l
-    ∙ ap (λ (x : ℕ). has x g) (ap (λ (x : List ℕ). get_or x r 0) e ∙ list_at 8 (λ k. get_or w k 0 / 2 ^ at) r l)
-    ∙ has_shr (get_or w r 0) at g)))
+-- lane at + g of w is byte g of what eight lanes from at on turn to
+lane_byte : (w b : List ℕ) (at g : ℕ) → b ≡ turned_of (eight_from at w) → g < 8 → get_or b g 0 ≡ set_at w (at + g)
+unfolding turned_of eight_from
+lane_byte w b at g u h =
+    let lanes : ℕ → ℕ = λ r. get_or w r 0 / 2 ^ at % 256 in
+    let byte : ℕ = mask_of 8 (λ k. has (get_or (list_of 8 lanes) k 0) g) in
+    let small : byte < 256 = mask_below 8 (λ k. has (get_or (list_of 8 lanes) k 0) g) 8 (le_refl 8) in
+    ap (λ (x : List ℕ). get_or x g 0) u ∙ list_at 8 (λ r. mask_of 8 (λ k. has (get_or (list_of 8 lanes) k 0) r)) g h
+    ∙ sym (set_is w (at + g) byte small (λ r l.
+    sym (has_mask 8 (λ k. has (get_or (list_of 8 lanes) k 0) g) r l
+    ∙ ap (λ (x : ℕ). has x g) (list_at 8 lanes r l)
+    ∙ has-low (get_or w r 0 / 2 ^ at) 8 g h ∙ has_shr (get_or w r 0) at g)))
 
-pub lane_words : (w rest b : List ℕ) (at count n : ℕ) → rest ≡ lanes_from at w → b ≡ turned_of rest → n ≡ count → count ≤ 8
-    → list_of n (λ g. get_or b g 0 % 256) ≡ list_of count (λ g. set_at w (at + g))
-lane_words w rest b at count n p u q h =
-    ap (λ (k : ℕ). list_of k (λ g. get_or b g 0 % 256)) q ∙ list_same count _ _ (λ g l. lane_word w rest b at g p u (omega arith))
+-- the cells of one block more
+pub block_given : (w row b rest : List ℕ) (at next : ℕ) → next ≡ at + 8 → take at row ≡ list_of at (set_at w) → b ≡ turned_of (eight_from at w)
+    → take next (take at row ++ (b ++ rest)) ≡ list_of next (set_at w)
+unfolding turned_of
+block_given w row b rest at next e given u =
+    let eight : next - at ≡ 8 = omega arith in
+    part_stored row b rest (set_at w) at next (omega arith) given
+    (by_places (next - at) (λ g. set_at w (at + g)) b (ap length u ∙ list_length 8 _ ∙ sym eight)
+    (λ g l. lane_byte w b at g u (omega arith)))
+
+-- the first n of at least as many cells that are made
+pub row_given : (w row : List ℕ) (n at : ℕ) → n ≤ at → take at row ≡ list_of at (set_at w) → take n row ≡ row_cells n w
+unfolding row_cells
+row_given w row n at h e =
+    let whole : n + (at - n) ≡ at = omega arith in
+    sym (take-take n at row h) ∙ ap (take n) (e ∙ ap (λ (k : ℕ). list_of k (set_at w)) (sym whole) ∙ list_split n (at - n) (set_at w))
+    ∙ take_at (list_of n (set_at w)) (list_of (at - n) (λ i. set_at w (n + i))) n (list_length n (set_at w))
 
 -- ---- a row and its words
 

@@ -1,86 +1,53 @@
--- Eight words joined into one, flipped and taken apart again are turned.
-use Prim.Native.Nat.{ℕ, ◌+◌, ◌*◌, ◌-◌, ◌/◌, ◌%◌, ◌^◌, ◌<◌}
-use mathlib.Core.Path.{◌≡◌, refl, sym, ap, ap₂, ◌∙◌}
-use mathlib.Core.Bool.{Bool, true, false, ◌&&◌, and-true, and-false}
+-- Eight bytes made into one number, flipped and taken apart again are turned.
+use Prim.Native.Nat.{ℕ, ◌+◌, ◌*◌, ◌/◌, ◌%◌, ◌^◌, ◌<◌}
+use mathlib.Core.Path.{◌≡◌, sym, ap, ◌∙◌}
 use mathlib.Core.List.{List}
-use native.Mathlib.Decide.{dec_lt}
 use native.Mathlib.Nat.{mod-lt, zero-lt-suc, le_refl}
-use native.Mathlib.Numerals.{add-one}
 use native.Mathlib.Omega.{arith}
-use lib.Bits.{bit_or}
-use lib.Dec.{eqb, eqb→eq, eqb_refl}
-use lib.ListN.{get_or}
-use lib.Pow.{shl_exact}
-use Rattle.relation.specs.Sets.{has, union_of}
-use Rattle.relation.proofs.Tests.{same}
-use Rattle.relation.proofs.Member.{ext_byte, none_beyond}
+use lib.ListN.{length, get_or}
+use Rattle.std.specs.Int.{w64, to_le_bytes, from_le_bytes}
+use Rattle.std.proofs.lemmas.Nat.{le_bytes_8}
+use Rattle.relation.specs.Sets.{has}
+use Rattle.relation.proofs.Member.{ext_byte}
+use Rattle.lists.specs.Tabled.{tabled}
 use Rattle.lanes.specs.Lists.{list_of, mask_of}
-use Rattle.rows.specs.Inner.{joined_of, turned_of, Flipped}
-use Rattle.lanes.proofs.Lists.{list_same}
-use Rattle.lanes.proofs.Unions.{some_same, some_one, has_union}
+use Rattle.lanes.proofs.Lists.{list_at, list_same}
 use Rattle.lanes.proofs.Sets.{has_mask, mask_below}
-use Rattle.lanes.proofs.Shifts.{has_shr, has_shl, has_shl_below, has-low}
+use Rattle.lanes.proofs.Shifts.{has_shr, has-low}
+use Rattle.rows.specs.Inner.{turned_of, Flipped}
 
--- ---- the joined word
+-- ---- a number of 64 bits and its bytes
 
--- the first n of the words joined
-unfoldable pub joined_upto : List ℕ → ℕ → ℕ
-joined_upto b n = union_of n (λ g. get_or b g 0 % 256 * 2 ^ (8 * g))
+bytes_list : (n : ℕ) → to_le_bytes w64 n ≡ list_of 8 (λ r. n / 2 ^ (8 * r) % 256)
+unfolding tabled
+bytes_list n = let first : n ≡ n / 1 = omega arith in cc
 
-pub joined-none : (b : List ℕ) → 0 ≡ joined_upto b 0
-unfolding joined_upto union_of
-joined-none b = refl
+-- byte g of the number that eight bytes make
+byte_of : (b : List ℕ) (n g : ℕ) → length b ≡ 8 → ((i : ℕ) → get_or b i 0 < 256) → n ≡ from_le_bytes w64 b → g < 8
+    → n / 2 ^ (8 * g) % 256 ≡ get_or b g 0
+byte_of b n g long small e h =
+    sym (list_at 8 (λ r. n / 2 ^ (8 * r) % 256) g h)
+    ∙ ap (λ (l : List ℕ). get_or l g 0) (sym (bytes_list n) ∙ le_bytes_8 b n long small e)
 
-pub joined_more : (b : List ℕ) (n x : ℕ) → n < 8 → x ≡ joined_upto b n
-    → bit_or x (get_or b n 0 % 256 * 2 ^ (8 * n) % 2 ^ 64) ≡ joined_upto b (n + 1)
-unfolding joined_upto union_of
-joined_more b n x h e =
-    ap₂ bit_or e (shl_exact 8 (8 * n) 64 (mod-lt (get_or b n 0) (zero-lt-suc 255)) (omega arith))
-    ∙ ap (joined_upto b) (sym (add-one n))
+-- bit i of byte g is bit 8 g + i of the number
+bit_of : (b : List ℕ) (n g i : ℕ) → length b ≡ 8 → ((i : ℕ) → get_or b i 0 < 256) → n ≡ from_le_bytes w64 b → g < 8 → i < 8
+    → has n (8 * g + i) ≡ has (get_or b g 0) i
+bit_of b n g i long small e h l =
+    sym (has_shr n (8 * g) i) ∙ sym (has-low (n / 2 ^ (8 * g)) 8 i l) ∙ ap (λ (x : ℕ). has x i) (byte_of b n g long small e h)
 
-pub joined_all : (b : List ℕ) (n x : ℕ) → n ≡ 8 → x ≡ joined_upto b n → x ≡ joined_of b
-unfolding joined_upto joined_of
-joined_all b n x q e = e ∙ ap (joined_upto b) q
+-- ---- the bytes of the flipped one
 
--- one word's byte has bits in its own eight places alone
-own_places : (v h g i : ℕ) → i < 8 → has (v % 256 * 2 ^ (8 * h)) (8 * g + i) ≡ has v i && eqb g h
-own_places v h g i l = go (dec_lt g h) (dec_lt h g)
-  where
-    none : (g ≡ h → ⊥) → false ≡ has v i && eqb g h
-    none n =
-        sym (ap (λ (b : Bool). has v i && b) (same (eqb g h) false (λ t. n (eqb→eq g h t)) (λ t. absurd t)) ∙ and-false (has v i))
-
-    go : Dec (g < h) → Dec (h < g) → has (v % 256 * 2 ^ (8 * h)) (8 * g + i) ≡ has v i && eqb g h
-    go (yes a) d = has_shl_below (v % 256) (8 * h) (8 * g + i) (omega arith) ∙ none (λ e. omega arith)
-    go (no a) (yes b) =
-        let far : 8 * g + i ≡ 8 * h + (8 * (g - h) + i) = omega arith in
-        ap (has (v % 256 * 2 ^ (8 * h))) far ∙ has_shl (v % 256) (8 * h) (8 * (g - h) + i)
-        ∙ none_beyond (v % 256) (8 * (g - h) + i) (mod-lt v (zero-lt-suc 255)) (omega arith) ∙ none (λ e. omega arith)
-    go (no a) (no b) =
-        let e : g ≡ h = omega arith in
-        ap (λ (k : ℕ). has (v % 256 * 2 ^ (8 * k)) (8 * g + i)) (sym e) ∙ has_shl (v % 256) (8 * g) i ∙ has-low v 8 i l
-        ∙ sym (ap (λ (b : Bool). has v i && b) (ap (eqb g) (sym e) ∙ same (eqb g g) true (λ t. tt) (λ t. eqb_refl g)) ∙ and-true (has v i))
-
-pub has-joined : (b : List ℕ) (g i : ℕ) → g < 8 → i < 8 → has (joined_of b) (8 * g + i) ≡ has (get_or b g 0) i
-unfolding joined_of
-has-joined b g i h l =
-    has_union 8 (λ h. get_or b h 0 % 256 * 2 ^ (8 * h)) (8 * g + i)
-    ∙ some_same 8 _ _ (λ h m. own_places (get_or b h 0) h g i l)
-    ∙ some_one 8 (λ h. has (get_or b h 0) i) g h
-
--- ---- the words of the flipped one
-
-turned-word : (b : List ℕ) (joined x r : ℕ) → joined ≡ joined_of b → Flipped joined x → r < 8
+turned-byte : (b : List ℕ) (n x r : ℕ) → length b ≡ 8 → ((i : ℕ) → get_or b i 0 < 256) → n ≡ from_le_bytes w64 b → Flipped n x → r < 8
     → x / 2 ^ (8 * r) % 256 ≡ mask_of 8 (λ g. has (get_or b g 0) r)
-turned-word b joined x r e f h =
+turned-byte b n x r long small e f h =
     ext_byte (x / 2 ^ (8 * r) % 256) (mask_of 8 (λ g. has (get_or b g 0) r)) (mod-lt (x / 2 ^ (8 * r)) (zero-lt-suc 255))
     (mask_below 8 (λ g. has (get_or b g 0) r) 8 (le_refl 8))
     (λ g l.
     let place : 8 * ((8 * r + g) % 8) + (8 * r + g) / 8 ≡ 8 * g + r = omega arith in
     has-low (x / 2 ^ (8 * r)) 8 g l ∙ has_shr x (8 * r) g ∙ f.bit (8 * r + g) (omega arith)
-    ∙ ap₂ has e place ∙ has-joined b g r l h ∙ sym (has_mask 8 (λ g. has (get_or b g 0) r) g l))
+    ∙ ap (has n) place ∙ bit_of b n g r long small e l h ∙ sym (has_mask 8 (λ g. has (get_or b g 0) r) g l))
 
-pub turned_words : (b : List ℕ) (joined x : ℕ) → joined ≡ joined_of b → Flipped joined x
-    → list_of 8 (λ r. x / 2 ^ (8 * r) % 256) ≡ turned_of b
+pub turned_bytes : (b : List ℕ) (n x : ℕ) → length b ≡ 8 → ((i : ℕ) → get_or b i 0 < 256) → n ≡ from_le_bytes w64 b → Flipped n x
+    → to_le_bytes w64 x ≡ turned_of b
 unfolding turned_of
-turned_words b joined x e f = list_same 8 _ _ (λ r h. turned-word b joined x r e f h)
+turned_bytes b n x long small e f = bytes_list x ∙ list_same 8 _ _ (λ r h. turned-byte b n x r long small e f h)

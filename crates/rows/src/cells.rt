@@ -3,46 +3,25 @@ ghost use Rattle.std.specs.Prelude.{◌≡◌, ◌+◌, ◌*◌, ◌/◌, ◌%�
 ghost use Rattle.std.specs.Int.Bits.{bit_or};
 ghost use Rattle.lanes.specs.Lists.{list_of};
 ghost use Rattle.rows.specs.Rows.{row_words, row_cells, row_after};
-ghost use Rattle.rows.specs.Inner.{lanes_from};
+ghost use Rattle.rows.specs.Inner.{eight_from};
 
 use crate::square::turned;
+use std::array;
 
-// Cell j; the universal set past the end.
-fn cell_or_all(cells: &[u8], j: usize) -> u8
-    ensures { result ≡ get_or cells.now j 255 }
-{
-    if j < cells.len() {
-        return cells[j];
-    }
-    255
-}
-
-// Eight cells from `at` on, as words.
-fn eight_cells(cells: &[u8], at: usize) -> [u64; 8]
+// Eight cells from `at` on; the universal set past the end.
+fn eight_cells(cells: &[u8], at: usize) -> [u8; 8]
     requires { at ≤ 56 }
     ensures { result ≡ list_of 8 (λ g. get_or cells.now (at + g) 255) }
 {
-    let mut b = [0u64; 8];
-    let mut g: usize = 0;
-    while g < 8 {
-        b[g] = cell_or_all(cells, at + g) as u64;
-        g += 1;
-    }
-    b
+    array::from_fn(|g| cells.get(at + g).copied().unwrap_or(255))
 }
 
-// The words with more lanes, from lane `at` on.
-fn with_lanes(w: [u64; 8], at: usize, lanes: [u64; 8]) -> [u64; 8]
+// The words with eight more lanes, from lane `at` on.
+fn with_lanes(w: [u64; 8], at: usize, lanes: [u8; 8]) -> [u64; 8]
     requires { at < 64 }
     ensures { result ≡ list_of 8 (λ k. bit_or (get_or w k 0) (get_or lanes k 0 * 2 ^ at % 2 ^ 64)) }
 {
-    let mut more = w;
-    let mut r: usize = 0;
-    while r < 8 {
-        more[r] = w[r] | (lanes[r] << at);
-        r += 1;
-    }
-    more
+    array::from_fn(|r| w[r] | u64::from(lanes[r]) << at)
 }
 
 // A row of cells, of which the first 64 count; lanes past its end have the universal set.
@@ -50,54 +29,23 @@ pub fn take_row(cells: &[u8]) -> [u64; 8]
     ensures { result ≡ row_words cells.now }
 {
     let mut w = [0u64; 8];
-    let mut at: usize = 0;
-    while at < 64 {
+    for block in 0..8 {
+        let at = 8 * block;
         if cells.len() <= at {
-            return with_lanes(w, at, [18446744073709551615u64; 8]);
+            return w.map(|word| word | u64::MAX << at);
         }
-        let next = with_lanes(w, at, turned(eight_cells(cells, at)));
-        w = next;
-        at += 8;
+        let more = with_lanes(w, at, turned(eight_cells(cells, at)));
+        w = more;
     }
     w
 }
 
-// The lanes from `at` on, moved to the first.
-fn from_lane(w: [u64; 8], at: usize) -> [u64; 8]
+// Eight lanes from `at` on.
+fn eight_lanes(w: [u64; 8], at: usize) -> [u8; 8]
     requires { at < 64 }
-    ensures { result ≡ lanes_from at w }
+    ensures { result ≡ eight_from at w }
 {
-    let mut rest = w;
-    let mut r: usize = 0;
-    while r < 8 {
-        rest[r] = w[r] >> at;
-        r += 1;
-    }
-    rest
-}
-
-// Eight words as eight cells.
-fn give_eight(b: [u64; 8], cells: &mut [u8])
-    requires { length cells.old ≡ 8 }
-    ensures { cells.new ≡ list_of 8 (λ g. get_or b g 0 % 256) }
-{
-    let mut g: usize = 0;
-    while g < 8 {
-        cells[g] = (b[g] % 256) as u8;
-        g += 1;
-    }
-}
-
-// As many of the words as there are cells.
-fn give_rest(b: [u64; 8], cells: &mut [u8])
-    requires { length cells.old ≤ 8 }
-    ensures { cells.new ≡ list_of (length cells.old) (λ g. get_or b g 0 % 256) }
-{
-    let mut g: usize = 0;
-    while g < cells.len() {
-        cells[g] = (b[g] % 256) as u8;
-        g += 1;
-    }
+    w.map(|word| (word >> at & 0xff) as u8)
 }
 
 // The first lanes as cells, as many as there are cells.
@@ -105,15 +53,12 @@ fn give_lanes(w: [u64; 8], cells: &mut [u8])
     requires { length cells.old ≤ 64 }
     ensures { cells.new ≡ row_cells (length cells.old) w }
 {
-    let mut at: usize = 0;
-    while at + 8 <= cells.len() {
-        let end = at + 8;
-        give_eight(turned(from_lane(w, at)), &mut cells[at..end]);
-        at = end;
+    let mut row = [0u8; 64];
+    for block in 0..cells.len().div_ceil(8) {
+        let at = 8 * block;
+        row[at..at + 8].copy_from_slice(&turned(eight_lanes(w, at)));
     }
-    if at < cells.len() {
-        give_rest(turned(from_lane(w, at)), &mut cells[at..]);
-    }
+    cells.copy_from_slice(&row[..cells.len()]);
 }
 
 // The first lanes as cells, as many as there are cells; more than 64 cells stay as they are.

@@ -1,18 +1,7 @@
--- `rows::cells::eight_cells` meets its contract. The loop's invariant: the first g cells are read.
-use mathlib.Core.Path.{refl}
-use native.Mathlib.Omega.{arith}
-use lib.ListN.{length-set}
-use Rattle.lanes.proofs.Lists.{none-stored, one_stored}
+-- `rows::cells::eight_cells` meets its contract.
 use Rattle.std.proofs.Common.{rules}
+use Rattle.lanes.proofs.Made.{from_fn_list}
 use Rattle.rows.proofs.cells.eight_cells.Goals as goal
 
-pub loop-g-init : goal.loop-g-init
-loop-g-init c = (search rules, refl, none-stored _)
-
-pub loop-g-preserved : goal.loop-g-preserved
-loop-g-preserved c =
-    let loop = c.loop-g in (
-      search rules,
-      simp length-set loop.invariant.1,
-      one_stored loop.b _ loop.g _ (omega arith) loop.invariant.2 c.cell_or_all.ensures,
-    )
+pub returns : goal.returns
+returns c = from_fn_list c.from_fn.ensures.items (λ i y q h k. search rules)

@@ -1,11 +1,7 @@
--- `rows::cells::take_row` meets its contract. The loop's invariant: the words have the first `at` lanes.
-use Prim.Native.Nat.{◌%◌, ◌-◌, ◌≤◌}
-use mathlib.Core.Path.{◌≡◌}
+-- `rows::cells::take_row` meets its contract. The loop's invariant: the words have the lanes of the blocks so far.
+use Rattle.std.proofs.Common.{◌≡◌, ◌*◌}
 use Rattle.rows.proofs.Placing.{row_upto}
 use Rattle.rows.proofs.cells.take_row.Given as goal
 
-abbrev pub invariant-loop-at : goal.invariant-loop-at
-invariant-loop-at l = (l.at ≤ 64) × (l.at % 8 ≡ 0) × (l.w ≡ row_upto l.cells l.at)
-
-abbrev pub decreases-loop-at : goal.decreases-loop-at
-decreases-loop-at l = 64 - l.at
+abbrev pub invariant-loop-block : goal.invariant-loop-block
+invariant-loop-block l = l.w ≡ row_upto l.cells (8 * l.block)
