@@ -5,14 +5,14 @@ use mathlib.Core.List.{List}
 use Prim.Native.Nat.{ℕ, suc, ◌≤◌, ◌<◌}
 use native.Mathlib.Omega.{arith}
 use lib.ListN.{length}
+use Rattle.std.specs.Prelude.{Ok}
 use Rattle.refinement.specs.Refine.{most_rounds}
 use Rattle.refinement.specs.Run.{EachSome}
 use Rattle.refinement.proofs.Slack.{slack, slack_most}
 use Rattle.refinement.proofs.Sharing.{some-total}
 use Rattle.network.specs.declared.Area.{Area}
 use Rattle.network.specs.declared.Area.TheVariants.{First}
-use Rattle.network.specs.declared.Start.TheVariants.{Ready}
-use Rattle.network.specs.declared.Verdict.{Verdict}
+use Rattle.network.specs.Verdict.{Verdict}
 use Rattle.network.specs.Numbers.{answer_of}
 use Rattle.network.specs.Prepared.{Prepared}
 use Rattle.network.specs.Ran.{starts_from}
@@ -29,7 +29,7 @@ few_calls {n} (next call rest e) some =
     omega (arith, some.0, (continues call).less, rw (next_starts call) at (few_calls rest some.1))
 
 module _ {n : ℕ} {cells first second first₁ second₁ : List ℕ}
-    (start : Prepared n cells first second first₁ second₁ Ready) {shares first' second' : List ℕ} {counted : ℕ} {verdict : Verdict}
+    (start : Prepared n cells first second first₁ second₁ (Ok tt)) {shares first' second' : List ℕ} {counted : ℕ} {verdict : Verdict}
     (chain : Chain n First first₁ second₁ shares counted verdict first' second') (some : EachSome shares) where
   pub calls_bound : length shares ≤ suc (most_rounds n)
   calls_bound =

@@ -14,20 +14,19 @@ use Rattle.refinement.proofs.Limits.{refined_in_range}
 use Rattle.refinement.proofs.Demand.{refined_ends}
 use Rattle.refinement.proofs.Consequences.{refine-network}
 use Rattle.network.specs.declared.Area.TheVariants.{First, Second}
-use Rattle.network.specs.declared.Verdict.{Verdict}
-use Rattle.network.specs.declared.Verdict.TheVariants.{Accepted}
+use Rattle.network.specs.Verdict.{Verdict, acceptance}
 use Rattle.network.specs.Refined.{Refined}
 use Rattle.network.specs.Handed.{Handed}
 use Rattle.network.specs.Demand.{Accepts}
 use Rattle.network.specs.Carries.{Carries}
 use Rattle.network.specs.Again.{Again}
-use Rattle.network.proofs.Verdicts.{contradiction_of, verdict_of, verdict_back, names-whole, one_verdict}
+use Rattle.network.proofs.Verdicts.{contradiction_of, unrefined_of, verdict_of, verdict_back, names-whole, one_verdict}
 use Rattle.network.proofs.Demand3.{accepted-ending, handed-network, demand_three}
 
 -- ---- what a verdict carries
 
 named : {n : ℕ} {numbers : Answer} → NamesRegions n numbers → Carries n (verdict_of n First numbers)
-unfolding verdict_of contradiction_of
+unfolding verdict_of unrefined_of contradiction_of
 named (a_region x) =
     rw x.number (record { number = refl; inside = x.inside; second = refl; third = refl; counted = x.counted })
 named (a_pair x) =
@@ -35,7 +34,7 @@ named (a_pair x) =
 named (a_triple x) = rw x.number (record { number = refl; three = x.three; few = x.few })
 
 carried : (n : ℕ) (m : List ℕ) (ending : Ending (List ℕ)) → Ends n m ending → Carries n (verdict_of n First (answered ending))
-unfolding verdict_of contradiction_of
+unfolding verdict_of unrefined_of contradiction_of
 carried n m (accepted network count) x = x.few
 carried n m (refused numbers) x = named x.names
 
@@ -54,8 +53,8 @@ pub network-again : {n : ℕ} {m network first second first' second' part : List
     → Handed first' second' atFirst atSecond verdict part atPart → Again n network verdict part
 network-again {n} {m} {network} {first} {second} {first'} {second'} {part} {verdict} N range call back =
     let ends : refined n network (length first) (length second) ≡ accepted network 0 = refined_in_range range ∙ refine-network N in
-    let e : verdict ≡ Accepted n 0 Second =
-    one_verdict n (accepts 0) verdict (Accepted n 0 Second) call.names (refl, refl) (call.answer ∙ ap answered ends) refl in
+    let e : verdict ≡ acceptance n 0 Second =
+    one_verdict n (accepts 0) verdict (acceptance n 0 Second) call.names (refl, refl) (call.answer ∙ ap answered ends) refl in
     let a : Accepts verdict = record { regions = n; rounds = 0; area = Second; is = e } in
     let o = accepted-ending range call a in
     record {

@@ -11,6 +11,7 @@ use contract.Lifetimes.{Lfts}
 use denote.Triple.Clauses.{AtExit}
 use lib.ListN.{length, take}
 use lib.Seq.{take_all}
+use Rattle.std.specs.Prelude.{Ok, Err}
 use Rattle.answer.specs.Answer.{Answer, accepts}
 use Rattle.lists.specs.Laid.{laid}
 use Rattle.lists.proofs.LaidLaws.{length-laid, take-laid}
@@ -23,15 +24,13 @@ use Rattle.refinement.specs.Ends.{Ends, NamesRegions, a_region, a_pair, a_triple
 use Rattle.refinement.proofs.Demand.{refined_ends, accepted-largest, accepted_exactly}
 use Rattle.network.specs.declared.Area.{Area}
 use Rattle.network.specs.declared.Area.TheVariants.{First, Second}
-use Rattle.network.specs.declared.Contradiction.TheVariants.{Region, Pair, Triple}
-use Rattle.network.specs.declared.Verdict.{Verdict}
-use Rattle.network.specs.declared.Verdict.TheVariants.{Accepted, Refused, Unfinished, Unprepared, OutOfRange, WrongLength}
+use Rattle.network.specs.Verdict.{Verdict, acceptance}
 use Rattle.network.specs.Numbers.{answer_of}
 use Rattle.network.specs.Refined.{NamesArea, Refined, leaves}
 use Rattle.network.specs.Areas.{chosen}
 use Rattle.network.specs.Handed.{Handed, handed, served}
 use Rattle.network.specs.Demand.{Accepts, Demand}
-use Rattle.network.proofs.Verdicts.{number_of}
+use Rattle.network.proofs.Verdicts.{number_of, unrefined_numbered}
 use Rattle.network.proofs.refine.Kinds as refining
 use Rattle.network.proofs.refine.Reads.{Post as Refines}
 use Rattle.network.proofs.network.Kinds as handing
@@ -41,14 +40,9 @@ use Rattle.network.proofs.network.Reads.{Post as Hands}
 
 -- a verdict with the answer of an acceptance is one
 pub accepts_by_answer : (verdict : Verdict) (count : ℕ) → answer_of verdict ≡ accepts count → Accepts verdict
-accepts_by_answer (Accepted regions rounds area) count e = record { regions = regions; rounds = rounds; area = area; is = refl }
-accepts_by_answer (Refused (Region i) rounds) count e = absurd (let z : ◌≡◌ {A = ℕ} 21 0 = ap number_of e in omega arith)
-accepts_by_answer (Refused (Pair i j) rounds) count e = absurd (let z : ◌≡◌ {A = ℕ} 22 0 = ap number_of e in omega arith)
-accepts_by_answer (Refused (Triple i k j) rounds) count e = absurd (let z : ◌≡◌ {A = ℕ} 23 0 = ap number_of e in omega arith)
-accepts_by_answer (Unfinished rounds area) count e = absurd (let z : ◌≡◌ {A = ℕ} 24 0 = ap number_of e in omega arith)
-accepts_by_answer Unprepared count e = absurd (let z : ◌≡◌ {A = ℕ} 25 0 = ap number_of e in omega arith)
-accepts_by_answer OutOfRange count e = absurd (let z : ◌≡◌ {A = ℕ} 1 0 = ap number_of e in omega arith)
-accepts_by_answer WrongLength count e = absurd (let z : ◌≡◌ {A = ℕ} 2 0 = ap number_of e in omega arith)
+accepts_by_answer (Ok outcome) count e =
+    record { regions = outcome.regions; rounds = outcome.rounds; area = outcome.area; is = refl }
+accepts_by_answer (Err unrefined) count e = absurd (unrefined_numbered unrefined (ap number_of e))
 
 -- a refusal of the refinement has a number
 names-number : {n : ℕ} {numbers : Answer} → NamesRegions n numbers → numbers.number ≡ 0 → ⊥
@@ -98,7 +92,7 @@ module _ (n : ℕ) (network first second first' second' : List ℕ) (some : 1 �
   either First = front first first' f
   either Second = front second second' g
 
-  handed_front : (rounds : ℕ) (area : Area) → handed first' second' (Accepted n rounds area) ≡ network
+  handed_front : (rounds : ℕ) (area : Area) → handed first' second' (acceptance n rounds area) ≡ network
   handed_front rounds area = rw serves (either area)
 
 module _ {n : ℕ} {cells first second first' second' : List ℕ} {verdict : Verdict}
@@ -119,7 +113,7 @@ module _ {n : ℕ} {cells first second first' second' : List ℕ} {verdict : Ver
   -- what is handed back is the accepted network
   pub handed-network : handed first' second' verdict ≡ (accepted-ending range call a).given
   handed-network =
-      ap (handed first' second') (a.is ∙ ap (λ (k : ℕ). Accepted k a.rounds a.area) (subst (NamesArea n) a.is call.names).0)
+      ap (handed first' second') (a.is ∙ ap (λ (k : ℕ). acceptance k a.rounds a.area) (subst (NamesArea n) a.is call.names).0)
       ∙ handed_front n ending.given first second first' second' range.square.some range.square.few network-largest.network.size
       range.first-long range.second-long (left_in first first' call.in_first) (left_in second second' call.in_second)
       a.rounds a.area

@@ -4,6 +4,7 @@ use mathlib.Core.Bool.{true, false}
 use mathlib.Core.List.{List}
 use Prim.Native.Nat.{ℕ, ◌*◌}
 use lib.ListN.{length, replicate, length-replicate}
+use Rattle.std.specs.Prelude.{Err}
 use Rattle.answer.specs.Answer.{answer}
 use Rattle.answer.specs.Ending.{Ending, accepted, refused}
 use Rattle.lists.specs.Laid.{laid}
@@ -13,9 +14,9 @@ use Rattle.refinement.specs.Refine.{rounds}
 use Rattle.refinement.specs.Run.{is_plain, after_rounds}
 use Rattle.network.specs.declared.Area.{Area}
 use Rattle.network.specs.declared.Area.TheVariants.{First, Second}
-use Rattle.network.specs.declared.Contradiction.TheVariants.{Triple}
-use Rattle.network.specs.declared.Verdict.{Verdict}
-use Rattle.network.specs.declared.Verdict.TheVariants.{Accepted, Refused, Unfinished, Unprepared}
+use Rattle.refinement.specs.declared.Contradiction.TheVariants.{Triple}
+use Rattle.network.specs.Verdict.{Verdict, acceptance}
+use Rattle.network.specs.declared.Unrefined.TheVariants.{Refused, Unfinished, Unprepared}
 use Rattle.network.specs.Areas.{other, chosen, same_area, holds}
 use Rattle.network.specs.Ran.{round_before, used_up, left_by}
 use Rattle.network.specs.Inner.{Clears, rounds_or, Meets}
@@ -30,7 +31,7 @@ module _ (n : ℕ) (from : Area) (ending : Ending (List ℕ)) (first second : Li
   -- both areas hold the network
   pub meets-accepted : (count : ℕ) (network first' second' : List ℕ) (area : Area) → ending ≡ accepted network count
       → length network ≡ n * n → first' ≡ network → second' ≡ network → area ≡ holds (other from) count
-      → Meets n from ending first second first' second' (Accepted n count area)
+      → Meets n from ending first second first' second' (acceptance n count area)
   unfolding left_by
   meets-accepted count network first' second' area e l f g a =
       rw e
@@ -44,7 +45,7 @@ module _ (n : ℕ) (from : Area) (ending : Ending (List ℕ)) (first second : Li
   -- both areas are 0, as they were cleared
   pub meets_refused : (i k j : Place) (count : ℕ) (before behind first' second' : List ℕ)
       → ending ≡ refused (answer 23 i.0 k.0 j.0 count) → length before ≡ n * n → length behind ≡ n * n
-      → Clears before behind first' second' → Meets n from ending first second first' second' (Refused (Triple i k j) count)
+      → Clears before behind first' second' → Meets n from ending first second first' second' (Err (Refused (Triple i k j) count))
   unfolding left_by
   meets_refused i k j count before behind first' second' e u v c =
       rw e (record { answer = refl; names = tt; in_first = zeros_laid n before first u x c.in_first; in_second = zeros_laid n behind second v y c.in_second })
@@ -53,7 +54,7 @@ module _ (n : ℕ) (from : Area) (ending : Ending (List ℕ)) (first second : Li
   pub meets_unfinished : (count : ℕ) (first' second' : List ℕ) (area : Area) → ending ≡ refused (answer 24 0 0 0 count)
       → area ≡ holds from count → chosen (holds from count) first' second' ≡ laid (n * n) (after_rounds count n (chosen from first second)) (chosen (holds from count) first second)
       → chosen (other (holds from count)) first' second' ≡ round_before n count (chosen from first second) (chosen (other (holds from count)) first second)
-      → Meets n from ending first second first' second' (Unfinished count area)
+      → Meets n from ending first second first' second' (Err (Unfinished count area))
   unfolding left_by
   meets_unfinished count first' second' area e a f g =
       rw (e, a)
@@ -81,7 +82,7 @@ module _ (n : ℕ) (from : Area) (ending : Ending (List ℕ)) (first second : Li
 
 -- rounds cannot start from the matrix: nothing was written
 pub unplain_meets : (n : ℕ) (from : Area) (most : ℕ) (first second : List ℕ) → is_plain n (chosen from first second) ≡ false
-    → Meets n from (rounds_or n most (chosen from first second)) first second first second Unprepared
+    → Meets n from (rounds_or n most (chosen from first second)) first second first second (Err Unprepared)
 unfolding left_by
 unplain_meets n from most first second e = rw e (record { answer = refl; names = tt; in_first = refl; in_second = refl })
 

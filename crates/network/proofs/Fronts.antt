@@ -16,8 +16,7 @@ use Rattle.refinement.specs.InRange.{InRange}
 use Rattle.refinement.proofs.Limits.{limits_follow}
 use Rattle.network.specs.declared.Area.{Area}
 use Rattle.network.specs.declared.Area.TheVariants.{First, Second}
-use Rattle.network.specs.declared.Start.{Start}
-use Rattle.network.specs.declared.Verdict.{Verdict}
+use Rattle.network.specs.Verdict.{Verdict, Start}
 use Rattle.network.specs.Areas.{chosen, same_area, holds}
 use Rattle.network.specs.Numbers.{answer_of, answer_of_start}
 use Rattle.network.specs.Refined.{leaves}

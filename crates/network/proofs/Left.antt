@@ -7,6 +7,7 @@ use lib.ListN.{length, take, replicate, length-replicate}
 use lib.Seq.{length-take-le}
 use native.Mathlib.Nat.{zero-lt-suc}
 use native.Mathlib.Omega.{arith}
+use Rattle.std.specs.Prelude.{Err}
 use Rattle.lists.proofs.LaidLaws.{laid_all}
 use Rattle.region.specs.Lookup.{place}
 use Rattle.matrix.specs.Square.{Square}
@@ -17,8 +18,8 @@ use Rattle.refinement.specs.Refine.{rounds}
 use Rattle.refinement.specs.Run.{is_plain, after_rounds}
 use Rattle.network.specs.declared.Area.{Area}
 use Rattle.network.specs.declared.Area.TheVariants.{First, Second}
-use Rattle.network.specs.declared.Verdict.{Verdict}
-use Rattle.network.specs.declared.Verdict.TheVariants.{Unfinished}
+use Rattle.network.specs.Verdict.{Verdict}
+use Rattle.network.specs.declared.Unrefined.TheVariants.{Unfinished}
 use Rattle.network.specs.declared.turning.Ended.{Ended}
 use Rattle.network.specs.declared.turning.Ended.TheVariants.{Empty, Same, UsedUp}
 use Rattle.network.specs.Areas.{other, chosen, holds}
@@ -53,13 +54,13 @@ module _ (n : ℕ) (area : Area) (old new first' second' : List ℕ) where
 
 -- rounds that are used up: none was made, or some
 module _ (n : ℕ) (area named : Area) (count : ℕ) (old new first second : List ℕ) (e : named ≡ holds area count) where
-  pub stops_none : count ≡ 0 → Stops n area count old new first second first second (Unfinished count named)
-  stops_none z = record { told = ap (Unfinished count) e; none = λ h. (refl, refl); some = λ h. absurd (omega arith) }
+  pub stops_none : count ≡ 0 → Stops n area count old new first second first second (Err (Unfinished count named))
+  stops_none z = record { told = ap (λ (a : Area). Err (Unfinished count a)) e; none = λ h. (refl, refl); some = λ h. absurd (omega arith) }
 
   pub stops_some : (first' second' : List ℕ) → (count ≡ 0 → ⊥) → Shares n named old new first' second'
-      → Stops n area count old new first second first' second' (Unfinished count named)
+      → Stops n area count old new first second first' second' (Err (Unfinished count named))
   stops_some first' second' d s =
-      record { told = ap (Unfinished count) e; none = λ h. absurd (d h); some = λ h. subst (λ (a : Area). Shares n a old new first' second') e s }
+      record { told = ap (λ (a : Area). Err (Unfinished count a)) e; none = λ h. absurd (d h); some = λ h. subst (λ (a : Area). Shares n a old new first' second') e s }
 
 pub size_of : (n : ℕ) (planes : List ℕ) → length (planes_matrix n planes) ≡ n * n
 size_of n planes = length-grid n _

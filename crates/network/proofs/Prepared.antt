@@ -6,25 +6,24 @@ use Prim.Native.Nat.{ℕ, ◌*◌, ◌≤◌, ◌<◌}
 use borrow.Author.Tests.{lt-ltb, le-ltb, eq-eqb, ne_eqb}
 use lib.Dec.{eqb}
 use lib.ListN.{length, get_or}
+use Rattle.std.specs.Prelude.{Ok, Err}
 use Rattle.answer.specs.Ending.{accepted}
 use Rattle.lists.proofs.LaidLaws.{laid_all}
 use Rattle.region.specs.Lookup.{place}
-use Rattle.region.specs.declared.Place.{Place}
 use Rattle.relation.specs.Relations.{equal}
 use Rattle.relation.specs.Sets.{only, intersect}
 use Rattle.relation.specs.Converse.{converse}
 use Rattle.matrix.specs.Square.{Square}
 use Rattle.matrix.specs.Cells.{cell, row, column, first_empty}
-use Rattle.refinement.specs.declared.Preparation.{Preparation}
-use Rattle.refinement.specs.declared.Preparation.TheVariants.{Ready, Region, Pair}
+use Rattle.refinement.specs.declared.Contradiction.{Contradiction}
+use Rattle.refinement.specs.declared.Contradiction.TheVariants.{Region, Pair, Triple}
 use Rattle.refinement.specs.Node.{node_cell, node, empty_region}
 use Rattle.refinement.specs.Arc.{arc_cell}
-use Rattle.refinement.specs.Prepare.{prepared}
+use Rattle.refinement.specs.Prepare.{Preparation, prepared}
 use Rattle.refinement.specs.Refine.{started}
 use Rattle.refinement.proofs.Stages.{node-cell, length-arc, arc-place}
 use Rattle.refinement.proofs.Preparing.{preparation_region, preparation_pair, preparation_ready, ready_none_empty}
-use Rattle.network.specs.declared.Contradiction.TheVariants.{Region as AtRegion, Pair as AtPair}
-use Rattle.network.specs.declared.Start.TheVariants.{Ready as IsReady, Refused as IsRefused}
+use Rattle.network.specs.declared.Unrefined.TheVariants.{Refused}
 use Rattle.network.specs.Refined.{leaves}
 use Rattle.network.specs.Prepared.{leaves_second}
 use Rattle.network.specs.Inner.{Prepares, Clears, started_with, Readies}
@@ -58,7 +57,7 @@ node_test n m i stated test passed h e t p = rw (node-cell n m i i h h, ← e, �
 -- ---- what preparing finds
 
 module _ (n : ℕ) (cells first : List ℕ) (i : ℕ) (e : i ≡ empty_region n (node n cells)) where
-  pub prepares_region : i < n → Prepares n cells first first (Region (place i))
+  pub prepares_region : i < n → Prepares n cells first first (Err (Region (place i)))
   prepares_region h = record { found = sym (preparation_region n cells i e h); in_first = rw (← e, lt-ltb i n h) }
 
   module _ (h : n ≤ i) (area : List ℕ) (made : area ≡ prepared n cells) (p : ℕ) (f : p ≡ first_empty (length area) area) where
@@ -68,11 +67,11 @@ module _ (n : ℕ) (cells first : List ℕ) (i : ℕ) (e : i ≡ empty_region n 
     at_empty : p ≡ first_empty (n * n) (prepared n cells)
     at_empty = first_empty_in n (prepared n cells) made (length-arc n (node n cells)) f
 
-    pub prepares_pair : p < n * n → Prepares n cells first area (Pair (place (row n p)) (place (column n p)))
+    pub prepares_pair : p < n * n → Prepares n cells first area (Err (Pair (place (row n p)) (place (column n p))))
     prepares_pair l =
         record { found = sym (preparation_pair n cells none p at_empty l); in_first = rw (← e, le-ltb i n h) made }
 
-    pub prepares_ready : n * n ≤ p → Prepares n cells first area Ready
+    pub prepares_ready : n * n ≤ p → Prepares n cells first area (Ok tt)
     prepares_ready l =
         record { found = sym (preparation_ready n cells none (rw (← at_empty) l)); in_first = rw (← e, le-ltb i n h) made }
 
@@ -83,7 +82,7 @@ module _ {n : ℕ} {cells first second first' : List ℕ} {answer : Preparation}
   starts : started_with n cells ≡ started answer (λ _. accepted (prepared n cells) 0)
   starts = ap (λ (a : Preparation). started a (λ _. accepted (prepared n cells) 0)) (sym prepares.found)
 
-  pub readies_ready : answer ≡ Ready → Readies n (started_with n cells) first second first' second IsReady
+  pub readies_ready : answer ≡ Ok tt → Readies n (started_with n cells) first second first' second (Ok tt)
   unfolding leaves leaves_second
   readies_ready e =
       let none = ready_none_empty n cells (sym prepares.found ∙ e) in
@@ -96,24 +95,14 @@ module _ {n : ℕ} {cells first second first' : List ℕ} {answer : Preparation}
       })
 
   module _ {first'' second'' : List ℕ} (size : length first' ≡ n * n) (cleared : Clears first' second first'' second'') where
-    pub readies_region : {i : Place} → answer ≡ Region i
-        → Readies n (started_with n cells) first second first'' second'' (IsRefused (AtRegion i))
+    cleared_by : (contradiction : Contradiction)
+        → Readies n (started (Err contradiction) (λ _. accepted (prepared n cells) 0)) first second first'' second'' (Err (Refused contradiction 0))
     unfolding leaves leaves_second
-    readies_region e =
-        rw (starts ∙ ap (λ (a : Preparation). started a (λ _. accepted (prepared n cells) 0)) e)
-        (record {
-          answer = refl;
-          in_first = zeros_laid n first' first size square.size cleared.in_first;
-          in_second = zeros_laid n second second other.size other.size cleared.in_second;
-        })
+    cleared_by (Region i) = record { answer = refl; in_first = zeros_laid n first' first size square.size cleared.in_first; in_second = zeros_laid n second second other.size other.size cleared.in_second }
+    cleared_by (Pair i j) = record { answer = refl; in_first = zeros_laid n first' first size square.size cleared.in_first; in_second = zeros_laid n second second other.size other.size cleared.in_second }
+    cleared_by (Triple i k j) = record { answer = refl; in_first = zeros_laid n first' first size square.size cleared.in_first; in_second = zeros_laid n second second other.size other.size cleared.in_second }
 
-    pub readies_pair : {i j : Place} → answer ≡ Pair i j
-        → Readies n (started_with n cells) first second first'' second'' (IsRefused (AtPair i j))
-    unfolding leaves leaves_second
-    readies_pair e =
-        rw (starts ∙ ap (λ (a : Preparation). started a (λ _. accepted (prepared n cells) 0)) e)
-        (record {
-          answer = refl;
-          in_first = zeros_laid n first' first size square.size cleared.in_first;
-          in_second = zeros_laid n second second other.size other.size cleared.in_second;
-        })
+    pub readies_refused : {contradiction : Contradiction} → answer ≡ Err contradiction
+        → Readies n (started_with n cells) first second first'' second'' (Err (Refused contradiction 0))
+    readies_refused {contradiction} e =
+        rw (starts ∙ ap (λ (a : Preparation). started a (λ _. accepted (prepared n cells) 0)) e) (cleared_by contradiction)

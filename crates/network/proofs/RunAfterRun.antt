@@ -7,6 +7,7 @@ use native.Mathlib.Nat.{add-zero}
 use native.Mathlib.Omega.{arith}
 use lib.ListN.{length, take, replicate}
 use lib.Seq.{take_all, length-take-le}
+use Rattle.std.specs.Prelude.{Ok, Err}
 use Rattle.lists.specs.Laid.{laid}
 use Rattle.lists.proofs.LaidLaws.{length-laid, take-laid, laid-again}
 use Rattle.answer.specs.Answer.{Answer, answer}
@@ -18,9 +19,9 @@ use Rattle.refinement.proofs.PlainTest.{plain_tested, plain_passes}
 use Rattle.refinement.proofs.Sharing.{RoundsEnd, at_network, at_triple, at_last, rounds_ended, rounds_more, after_more, length_after, Continues, used_up_continues}
 use Rattle.network.specs.declared.Area.{Area}
 use Rattle.network.specs.declared.Area.TheVariants.{First, Second}
-use Rattle.network.specs.declared.Contradiction.TheVariants.{Region, Pair, Triple}
-use Rattle.network.specs.declared.Verdict.{Verdict}
-use Rattle.network.specs.declared.Verdict.TheVariants.{Accepted, Refused, Unfinished, Unprepared, OutOfRange, WrongLength}
+use Rattle.refinement.specs.declared.Contradiction.TheVariants.{Region, Pair, Triple}
+use Rattle.network.specs.Verdict.{Verdict}
+use Rattle.network.specs.declared.Unrefined.TheVariants.{Refused, Unfinished, Unprepared, OutOfRange, WrongLength}
 use Rattle.network.specs.Areas.{other, chosen, same_area, holds}
 use Rattle.network.specs.Numbers.{area_number, answer_of}
 use Rattle.network.specs.Ran.{answered_from, NamesFrom, round_before, used_up, left_by, starts_from, ran_from, Ran}
@@ -115,7 +116,7 @@ chosen-long n first second First x y = x
 chosen-long n first second Second x y = y
 
 module _ {n : ℕ} {from : Area} {most : ℕ} {first second first₁ second₁ : List ℕ} {count : ℕ} {area : Area}
-    (call : Ran n from most first second first₁ second₁ (Unfinished count area)) where
+    (call : Ran n from most first second first₁ second₁ (Err (Unfinished count area))) where
   pub was_used_up : WasUsedUp n from most first second count area
   was_used_up =
       by_ran
@@ -199,30 +200,30 @@ module _ {n : ℕ} {from : Area} {most : ℕ} {first second first₁ second₁ :
 
   recounted : (verdict : Verdict) {others : ℕ} {ending : Ending (List ℕ)} (k : ℕ) → RoundsEnd others ending
       → answer_of verdict ≡ answered_from area ending → answer_of (counting k verdict) ≡ recount k (answer_of verdict)
-  recounted (Accepted regions r a) k x e = refl
-  recounted (Refused (Region i) r) k x e = refl
-  recounted (Refused (Pair i j) r) k x e = refl
-  recounted (Refused (Triple i l j) r) k x e = refl
-  recounted (Unfinished r a) k x e = refl
-  recounted Unprepared k x e =
+  recounted (Ok outcome) k x e = refl
+  recounted (Err (Refused (Region i) r)) k x e = refl
+  recounted (Err (Refused (Pair i j) r)) k x e = refl
+  recounted (Err (Refused (Triple i l j) r)) k x e = refl
+  recounted (Err (Unfinished r a)) k x e = refl
+  recounted (Err Unprepared) k x e =
       absurd (ends_number area 25 x (ap number_of e) (λ z. omega (arith, z)) (λ z. omega (arith, z)) (λ z. omega (arith, z)))
-  recounted OutOfRange k x e =
+  recounted (Err OutOfRange) k x e =
       absurd (ends_number area 1 x (ap number_of e) (λ z. omega (arith, z)) (λ z. omega (arith, z)) (λ z. omega (arith, z)))
-  recounted WrongLength k x e =
+  recounted (Err WrongLength) k x e =
       absurd (ends_number area 2 x (ap number_of e) (λ z. omega (arith, z)) (λ z. omega (arith, z)) (λ z. omega (arith, z)))
 
   both_names : (verdict : Verdict) → NamesFrom n area verdict → NamesFrom n from (counting (most + (answer_of verdict).count) verdict)
-  both_names (Accepted regions r a) names = (
+  both_names (Ok outcome) names = (
     names.0,
     names.1
-        ∙ ap (λ (b : Area). holds b r) (ap other w.holder ∙ sym (holds-other from most))
-        ∙ sym (holds_more (other from) most r),
+        ∙ ap (λ (b : Area). holds b outcome.rounds) (ap other w.holder ∙ sym (holds-other from most))
+        ∙ sym (holds_more (other from) most outcome.rounds),
   )
-  both_names (Refused contradiction r) names = tt
-  both_names (Unfinished r a) names = tt
-  both_names Unprepared names = tt
-  both_names OutOfRange names = tt
-  both_names WrongLength names = tt
+  both_names (Err (Refused contradiction r)) names = tt
+  both_names (Err (Unfinished r a)) names = tt
+  both_names (Err Unprepared) names = tt
+  both_names (Err OutOfRange) names = tt
+  both_names (Err WrongLength) names = tt
 
   both_left : {others : ℕ} {ending : Ending (List ℕ)} → RoundsEnd others ending → (which : Area) (held : List ℕ)
       → left_by n area (after_rounds most n m) ending which (used_up n most m (same_area which (holds from most)) held)

@@ -14,7 +14,7 @@ use Rattle.matrix.specs.Square.{in_range, has_square}
 use Rattle.refinement.specs.Prepare.{prepared}
 use Rattle.refinement.specs.Refine.{refined}
 use Rattle.refinement.proofs.ArcStage.{same_refinement}
-use Rattle.network.specs.declared.Verdict.{Verdict}
+use Rattle.network.specs.Verdict.{Verdict}
 use Rattle.network.specs.Refined.{Refined, leaves}
 use Rattle.network.proofs.Verdicts.{one_verdict}
 use Rattle.network.proofs.refine.Kinds as refining

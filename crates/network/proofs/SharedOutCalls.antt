@@ -9,6 +9,7 @@ use native.Mathlib.Omega.{arith}
 use contract.Lifetimes.{Lfts}
 use denote.Triple.Clauses.{AtExit}
 use borrow.Fn.Kinds.{Dens, res_t, ended_of}
+use Rattle.std.specs.Prelude.{Ok, Err}
 use Rattle.answer.specs.Ending.{Ending}
 use Rattle.refinement.specs.Prepare.{prepared}
 use Rattle.refinement.specs.Refine.{most_rounds, rounds}
@@ -16,10 +17,9 @@ use Rattle.refinement.specs.Run.{is_used_up, total}
 use Rattle.refinement.proofs.Sharing.{RoundsEnd, at_network, at_triple, at_last, rounds_ended}
 use Rattle.network.specs.declared.Area.{Area}
 use Rattle.network.specs.declared.Area.TheVariants.{First}
-use Rattle.network.specs.declared.Contradiction.TheVariants.{Region, Pair, Triple}
-use Rattle.network.specs.declared.Start.TheVariants.{Ready}
-use Rattle.network.specs.declared.Verdict.{Verdict}
-use Rattle.network.specs.declared.Verdict.TheVariants.{Accepted, Refused, Unfinished, Unprepared, OutOfRange, WrongLength}
+use Rattle.refinement.specs.declared.Contradiction.TheVariants.{Region, Pair, Triple}
+use Rattle.network.specs.Verdict.{Verdict}
+use Rattle.network.specs.declared.Unrefined.TheVariants.{Refused, Unfinished, Unprepared, OutOfRange, WrongLength}
 use Rattle.network.specs.Numbers.{answer_of}
 use Rattle.network.specs.Refined.{Refined}
 use Rattle.network.specs.Prepared.{Prepared}
@@ -38,35 +38,35 @@ use Rattle.network.proofs.refine.Reads.{Post as Refines}
 -- ---- counts
 
 counting_own : (verdict : Verdict) → counting (answer_of verdict).count verdict ≡ verdict
-counting_own (Accepted regions r a) = refl
-counting_own (Refused (Region i) r) = refl
-counting_own (Refused (Pair i j) r) = refl
-counting_own (Refused (Triple i k j) r) = refl
-counting_own (Unfinished r a) = refl
-counting_own Unprepared = refl
-counting_own OutOfRange = refl
-counting_own WrongLength = refl
+counting_own (Ok outcome) = refl
+counting_own (Err (Refused (Region i) r)) = refl
+counting_own (Err (Refused (Pair i j) r)) = refl
+counting_own (Err (Refused (Triple i k j) r)) = refl
+counting_own (Err (Unfinished r a)) = refl
+counting_own (Err Unprepared) = refl
+counting_own (Err OutOfRange) = refl
+counting_own (Err WrongLength) = refl
 
 counting-again : (verdict : Verdict) (a b : ℕ)
     → counting (a + (answer_of (counting b verdict)).count) (counting b verdict) ≡ counting (a + b) verdict
-counting-again (Accepted regions r x) a b = refl
-counting-again (Refused (Region i) r) a b = refl
-counting-again (Refused (Pair i j) r) a b = refl
-counting-again (Refused (Triple i k j) r) a b = refl
-counting-again (Unfinished r x) a b = refl
-counting-again Unprepared a b = refl
-counting-again OutOfRange a b = refl
-counting-again WrongLength a b = refl
+counting-again (Ok outcome) a b = refl
+counting-again (Err (Refused (Region i) r)) a b = refl
+counting-again (Err (Refused (Pair i j) r)) a b = refl
+counting-again (Err (Refused (Triple i k j) r)) a b = refl
+counting-again (Err (Unfinished r x)) a b = refl
+counting-again (Err Unprepared) a b = refl
+counting-again (Err OutOfRange) a b = refl
+counting-again (Err WrongLength) a b = refl
 
 counting-number : (verdict : Verdict) (k : ℕ) → (answer_of (counting k verdict)).number ≡ (answer_of verdict).number
-counting-number (Accepted regions r x) k = refl
-counting-number (Refused (Region i) r) k = refl
-counting-number (Refused (Pair i j) r) k = refl
-counting-number (Refused (Triple i l j) r) k = refl
-counting-number (Unfinished r x) k = refl
-counting-number Unprepared k = refl
-counting-number OutOfRange k = refl
-counting-number WrongLength k = refl
+counting-number (Ok outcome) k = refl
+counting-number (Err (Refused (Region i) r)) k = refl
+counting-number (Err (Refused (Pair i j) r)) k = refl
+counting-number (Err (Refused (Triple i l j) r)) k = refl
+counting-number (Err (Unfinished r x)) k = refl
+counting-number (Err Unprepared) k = refl
+counting-number (Err OutOfRange) k = refl
+counting-number (Err WrongLength) k = refl
 
 -- ---- all calls together are one
 
@@ -85,7 +85,7 @@ chain_one_run {n} {from} {first} {second} {shares} {first'} {second'}
 -- ---- after a preparation that is ready
 
 module _ {n : ℕ} {cells first second first₁ second₁ : List ℕ}
-    (start : Prepared n cells first second first₁ second₁ Ready) {shares first' second' : List ℕ} {counted : ℕ} {verdict : Verdict}
+    (start : Prepared n cells first second first₁ second₁ (Ok tt)) {shares first' second' : List ℕ} {counted : ℕ} {verdict : Verdict}
     (chain : Chain n First first₁ second₁ shares counted verdict first' second') where
   one : Ran n First (total shares) first₁ second₁ first' second' (counting counted verdict)
   one = chain_one_run chain
@@ -138,7 +138,7 @@ call_last κs a r s call = last call refl
 
 -- or stands before one that starts from the area that it named, with the areas as it left them
 pub call_next : (κs : Lfts 2) (a : Dens κs running.ps) (r : (res_t running.r κs).Denot) (s : AtExit (ended_of 2 running.ps running.r) κs)
-    (count : ℕ) (area : Area) {shares first' second' : List ℕ} {others : ℕ} {verdict : Verdict} → Runs κs a r s → r ≡ Unfinished count area
+    (count : ℕ) (area : Area) {shares first' second' : List ℕ} {others : ℕ} {verdict : Verdict} → Runs κs a r s → r ≡ Err (Unfinished count area)
     → Chain a.0 area s.1.1.1.0.now s.1.1.1.1.0.now shares others verdict first' second'
     → Chain a.0 a.1.0 a.1.1.1.0.now a.1.1.1.1.0.now (a.1.1.0 ∷ shares) (count + others) verdict first' second'
 call_next κs a r s count area call e rest = next (rw e at call) rest refl
@@ -148,7 +148,7 @@ call_next κs a r s count area call e rest = next (rw e at call) rest refl
 pub calls_shared_out : (κs : Lfts 3) (a : Dens κs preparing.ps) (r : (res_t preparing.r κs).Denot)
     (s : AtExit (ended_of 3 preparing.ps preparing.r) κs) (μs : Lfts 3) (b : Dens μs refining.ps) (whole : (res_t refining.r μs).Denot)
     (t : AtExit (ended_of 3 refining.ps refining.r) μs) {shares first' second' : List ℕ} {counted : ℕ} {verdict : Verdict}
-    → Prepares κs a r s → r ≡ Ready → Chain a.0 First s.1.1.0.now s.1.1.1.0.now shares counted verdict first' second'
+    → Prepares κs a r s → r ≡ Ok tt → Chain a.0 First s.1.1.0.now s.1.1.1.0.now shares counted verdict first' second'
     → ((answer_of verdict).number ≡ 24 → ⊥) → Refines μs b whole t → b.0 ≡ a.0 → b.1.0.now ≡ a.1.0.now
     → b.1.1.0.now ≡ a.1.1.0.now → b.1.1.1.0.now ≡ a.1.1.1.0.now
     → (counting counted verdict ≡ whole) × (first' ≡ t.1.1.0.now) × (second' ≡ t.1.1.1.0.now)

@@ -6,6 +6,7 @@ use Prim.Native.Nat.{ℕ, ◌*◌, ◌≤◌, ◌<◌}
 use native.Mathlib.Omega.{arith}
 use lib.ListN.{length, replicate}
 use lib.Seq.{take_all}
+use Rattle.std.specs.Prelude.{Ok, Err}
 use Rattle.lists.specs.Laid.{laid}
 use Rattle.lists.proofs.LaidLaws.{length-laid, take-laid, laid-again}
 use Rattle.answer.specs.Ending.{Ending, accepted, refused, answered}
@@ -23,17 +24,12 @@ use Rattle.refinement.proofs.Readied.{Readied, readied-accepts, readied-refuses,
 use Rattle.refinement.proofs.Sharing.{RoundsEnd, at_network, at_triple, at_last, rounds_ended, unused_whole, rounds_finish}
 use Rattle.network.specs.declared.Area.{Area}
 use Rattle.network.specs.declared.Area.TheVariants.{First, Second}
-use Rattle.network.specs.declared.Contradiction.{Contradiction}
-use Rattle.network.specs.declared.Contradiction.TheVariants.{Region, Pair, Triple}
-use Rattle.network.specs.declared.Start.{Start}
-use Rattle.network.specs.declared.Start.TheVariants.{Ready, Refused as RefusedStart, OutOfRange as OutOfRangeStart, WrongLength as WrongLengthStart}
-use Rattle.network.specs.declared.Verdict.{Verdict}
-use Rattle.network.specs.declared.Verdict.TheVariants.{Refused, OutOfRange, WrongLength}
-use Rattle.network.specs.Numbers.{answer_of, answer_of_start}
-use Rattle.network.specs.Refined.{NamesArea, leaves, Refined}
+use Rattle.network.specs.declared.Unrefined.{Unrefined}
+use Rattle.network.specs.Verdict.{Verdict}
+use Rattle.network.specs.Refined.{leaves, Refined}
 use Rattle.network.specs.Prepared.{leaves_second, Prepared}
 use Rattle.network.specs.Ran.{answered_from, left_by, starts_from, ran_from, Ran}
-use Rattle.network.proofs.Verdicts.{number_of, names-first}
+use Rattle.network.proofs.Verdicts.{number_of, unrefined_numbered, names-first}
 
 -- ---- a refused preparation
 
@@ -43,39 +39,19 @@ unfolding leaves_second
 second_refused n (accepted matrix count) area h = absurd (h refl)
 second_refused n (refused numbers) area h = refl
 
--- a contradiction has a number
-contradicts : (contradiction : Contradiction) → (answer_of (Refused contradiction 0)).number ≡ 0 → ⊥
-contradicts (Region i) e = omega (arith, e)
-contradicts (Pair i j) e = omega (arith, e)
-contradicts (Triple i k j) e = omega (arith, e)
-
 module _ {n : ℕ} {cells first second first₁ second₁ : List ℕ} where
-  refused_whole : (start : Start) (verdict : Verdict) → answer_of_start start ≡ answer_of verdict → NamesArea n verdict
-      → ((answer_of verdict).number ≡ 0 → ⊥) → Prepared n cells first second first₁ second₁ start
-      → Refined n cells first second first₁ second₁ verdict
-  refused_whole start verdict e names h call =
+  pub whole_refused : (unrefined : Unrefined) → Prepared n cells first second first₁ second₁ (Err unrefined)
+      → Refined n cells first second first₁ second₁ (Err unrefined)
+  whole_refused unrefined call =
       let ending : Ending (List ℕ) = readied n cells (length first) (length second) in
-      let numbered : (answered ending).number ≡ 0 → ⊥ = λ z. h (ap number_of (sym e ∙ call.answer) ∙ z) in
+      let numbered : (answered ending).number ≡ 0 → ⊥ = λ z. unrefined_numbered unrefined (ap number_of call.answer ∙ z) in
       let same = readied-refuses n cells (length first) (length second) numbered in
       record {
-        answer = rw same (sym e ∙ call.answer);
-        names = names;
+        answer = rw same call.answer;
+        names = tt;
         in_first = rw same call.in_first;
         in_second = rw same (call.in_second ∙ second_refused n ending second numbered);
       }
-
-  pub whole_refused : {start : Start} {contradiction : Contradiction} → start ≡ RefusedStart contradiction
-      → Prepared n cells first second first₁ second₁ start → Refined n cells first second first₁ second₁ (Refused contradiction 0)
-  whole_refused {start} {contradiction} e call =
-      refused_whole start (Refused contradiction 0) (ap answer_of_start e) tt (contradicts contradiction) call
-
-  pub whole_outside : {start : Start} → start ≡ OutOfRangeStart → Prepared n cells first second first₁ second₁ start
-      → Refined n cells first second first₁ second₁ OutOfRange
-  whole_outside {start} e call = refused_whole start OutOfRange (ap answer_of_start e) tt (λ z. omega (arith, z)) call
-
-  pub whole_wrong : {start : Start} → start ≡ WrongLengthStart → Prepared n cells first second first₁ second₁ start
-      → Refined n cells first second first₁ second₁ WrongLength
-  whole_wrong {start} e call = refused_whole start WrongLength (ap answer_of_start e) tt (λ z. omega (arith, z)) call
 
 -- ---- rounds that are not used up
 
@@ -97,7 +73,7 @@ left_done n from area m at_last u held before same = absurd (true≢false u)
 -- ---- a ready preparation, and a run from it
 
 module _ {n : ℕ} {cells first second first₁ second₁ : List ℕ}
-    (call : Prepared n cells first second first₁ second₁ Ready) where
+    (call : Prepared n cells first second first₁ second₁ (Ok tt)) where
   pub ready : Readied n cells (length first) (length second)
   ready = readied-accepts n cells (length first) (length second) (ap number_of (sym call.answer))
 
@@ -172,9 +148,7 @@ module _ {n : ℕ} {cells first second first₁ second₁ : List ℕ}
   enough_done {most} h = rounds_finish most n (prepared n cells) size ready_plain h
 
 -- the rounds that the whole refinement allows are more than can change something
-pub whole_ready : {n : ℕ} {cells first second first₁ second₁ first' second' : List ℕ} {start : Start} {verdict : Verdict}
-    → start ≡ Ready → Prepared n cells first second first₁ second₁ start
+pub whole_ready : {n : ℕ} {cells first second first₁ second₁ first' second' : List ℕ} {verdict : Verdict}
+    → Prepared n cells first second first₁ second₁ (Ok tt)
     → Ran n First 14113 first₁ second₁ first' second' verdict → Refined n cells first second first' second' verdict
-whole_ready {n} e call run =
-    let c = rw e at call in
-    whole_done c (enough_done c (omega (arith, most_rounds_le n (ready c).range.square.few))) run
+whole_ready call run = whole_done call (enough_done call (omega (arith, most_rounds_le _ (ready call).range.square.few))) run

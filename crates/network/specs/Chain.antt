@@ -1,8 +1,8 @@
 -- Runs one after the other, as a host makes them that redraws in between.
-use Rattle.std.specs.Prelude.{◌≡◌, List, [], ◌∷◌, ℕ, ◌+◌}
+use Rattle.std.specs.Prelude.{◌≡◌, List, [], ◌∷◌, ℕ, ◌+◌, Ok, Err}
 use Rattle.network.specs.declared.Area.{Area}
-use Rattle.network.specs.declared.Verdict.{Verdict}
-use Rattle.network.specs.declared.Verdict.TheVariants.{Accepted, Refused, Unfinished, Unprepared, OutOfRange, WrongLength}
+use Rattle.network.specs.declared.Unrefined.TheVariants.{Refused, Unfinished, Unprepared, OutOfRange, WrongLength}
+use Rattle.network.specs.Verdict.{Verdict, acceptance}
 use Rattle.network.specs.Numbers.{answer_of}
 use Rattle.network.specs.Ran.{Ran}
 
@@ -13,14 +13,14 @@ pub data Chain (n : ℕ) : Area → List ℕ → List ℕ → List ℕ → ℕ �
       → Ran n from most first second first' second' verdict → counted ≡ (answer_of verdict).count
       → Chain n from first second (most ∷ []) counted verdict first' second'
   next : {from area : Area} {most rounds : ℕ} {first second first₁ second₁ first' second' shares : List ℕ} {others counted : ℕ} {verdict : Verdict}
-      → Ran n from most first second first₁ second₁ (Unfinished rounds area) → Chain n area first₁ second₁ shares others verdict first' second'
+      → Ran n from most first second first₁ second₁ (Err (Unfinished rounds area)) → Chain n area first₁ second₁ shares others verdict first' second'
       → counted ≡ rounds + others → Chain n from first second (most ∷ shares) counted verdict first' second'
 
 -- a verdict with another count
 abbrev pub counting : ℕ → Verdict → Verdict
-counting count (Accepted regions rounds area) = Accepted regions count area
-counting count (Refused contradiction rounds) = Refused contradiction count
-counting count (Unfinished rounds area) = Unfinished count area
-counting count Unprepared = Unprepared
-counting count OutOfRange = OutOfRange
-counting count WrongLength = WrongLength
+counting count (Ok outcome) = acceptance outcome.regions count outcome.area
+counting count (Err (Refused contradiction rounds)) = Err (Refused contradiction count)
+counting count (Err (Unfinished rounds area)) = Err (Unfinished count area)
+counting count (Err Unprepared) = Err Unprepared
+counting count (Err OutOfRange) = Err OutOfRange
+counting count (Err WrongLength) = Err WrongLength

@@ -2,15 +2,14 @@
 use Rattle.std.specs.Prelude.{◌≡◌, List, ℕ}
 use Rattle.refinement.specs.Network.{Largest, Exists}
 use Rattle.network.specs.declared.Area.{Area}
-use Rattle.network.specs.declared.Verdict.{Verdict}
-use Rattle.network.specs.declared.Verdict.TheVariants.{Accepted}
+use Rattle.network.specs.Verdict.{Verdict, acceptance}
 
 -- the verdict is an acceptance
 pub record Accepts (verdict : Verdict) : Type 0 where
   pub regions : ℕ
   pub rounds : ℕ
   pub area : Area
-  pub is : verdict ≡ Accepted regions rounds area
+  pub is : verdict ≡ acceptance regions rounds area
 
 -- of n regions with these cells
 pub record Demand (n : ℕ) (cells : List ℕ) (verdict : Verdict) (part : List ℕ) : Type 0 where

@@ -1,10 +1,10 @@
 -- What functions inside the crate promise one another; no public contract cites it.
-use Rattle.std.specs.Prelude.{◌≡◌, true, not, cond, List, ℕ, zero, suc, ◌*◌, ◌≤◌, ◌<◌, ltb, length, replicate}
+use Rattle.std.specs.Prelude.{◌≡◌, true, not, cond, List, ℕ, zero, suc, ◌*◌, ◌≤◌, ◌<◌, ltb, length, replicate, Err}
 use Rattle.answer.specs.Answer.{answer}
 use Rattle.answer.specs.Ending.{Ending, accepted, refused, answered, stop}
-use Rattle.refinement.specs.declared.Preparation.{Preparation}
+use Rattle.refinement.specs.declared.Contradiction.TheVariants.{Triple}
 use Rattle.refinement.specs.Node.{node, empty_region}
-use Rattle.refinement.specs.Prepare.{prepared, preparation}
+use Rattle.refinement.specs.Prepare.{Preparation, prepared, preparation}
 use Rattle.refinement.specs.Round.{ran_out}
 use Rattle.refinement.specs.Refine.{started, rounds}
 use Rattle.refinement.specs.Run.{is_plain, after_rounds}
@@ -13,12 +13,10 @@ use Rattle.planes.specs.Planes.{planes_matrix}
 use Rattle.region.specs.Lookup.{place}
 use Rattle.network.specs.declared.Area.{Area}
 use Rattle.network.specs.declared.Area.TheVariants.{First, Second}
-use Rattle.network.specs.declared.Start.{Start}
-use Rattle.network.specs.declared.Verdict.{Verdict}
-use Rattle.network.specs.declared.Verdict.TheVariants.{Accepted, Refused, Unfinished}
-use Rattle.network.specs.declared.Contradiction.TheVariants.{Triple}
+use Rattle.network.specs.declared.Unrefined.TheVariants.{Refused, Unfinished}
 use Rattle.network.specs.declared.turning.Ended.{Ended}
 use Rattle.network.specs.declared.turning.Ended.TheVariants.{Empty, Same, UsedUp}
+use Rattle.network.specs.Verdict.{Verdict, Start, acceptance}
 use Rattle.network.specs.Areas.{other, chosen, holds}
 use Rattle.network.specs.Numbers.{answer_of, answer_of_start}
 use Rattle.network.specs.Refined.{leaves}
@@ -100,12 +98,12 @@ Placed n (UsedUp count) = Unit
 
 -- both areas are cleared and the triple is told
 pub record Refuses (n row column round : ℕ) (old first second first' second' : List ℕ) (verdict : Verdict) : Type 0 where
-  pub told : verdict ≡ Refused (Triple (place row) (place (ran_out n (planes_matrix n old) row column)) (place column)) round
+  pub told : verdict ≡ Err (Refused (Triple (place row) (place (ran_out n (planes_matrix n old) row column)) (place column)) round)
   pub cleared : Clears first second first' second'
 
 -- both areas hold the network
 pub record Rests (n : ℕ) (area : Area) (count : ℕ) (old first' second' : List ℕ) (verdict : Verdict) : Type 0 where
-  pub told : verdict ≡ Accepted n count (holds (other area) count)
+  pub told : verdict ≡ acceptance n count (holds (other area) count)
   pub in_first : first' ≡ planes_matrix n old
   pub in_second : second' ≡ planes_matrix n old
 
@@ -116,7 +114,7 @@ pub record Shares (n : ℕ) (area : Area) (old new first' second' : List ℕ) : 
 
 -- so they do where the rounds are used up, unless none was made
 pub record Stops (n : ℕ) (area : Area) (count : ℕ) (old new first second first' second' : List ℕ) (verdict : Verdict) : Type 0 where
-  pub told : verdict ≡ Unfinished count (holds area count)
+  pub told : verdict ≡ Err (Unfinished count (holds area count))
   pub none : count ≡ 0 → (first' ≡ first) × (second' ≡ second)
   pub some : 0 < count → Shares n (holds area count) old new first' second'
 

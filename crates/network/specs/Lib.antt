@@ -1,5 +1,6 @@
 -- what the public calls promise
 pub mod Areas
+pub mod Verdict
 pub mod Numbers
 pub mod Refined
 pub mod Prepared

@@ -2,7 +2,7 @@
 use Rattle.std.specs.Prelude.{◌≡◌, List, ℕ, length}
 use Rattle.answer.specs.Ending.{Ending, accepted, refused, answered}
 use Rattle.refinement.specs.Run.{readied}
-use Rattle.network.specs.declared.Start.{Start}
+use Rattle.network.specs.Verdict.{Start}
 use Rattle.network.specs.Numbers.{answer_of_start}
 use Rattle.network.specs.Refined.{leaves}
 

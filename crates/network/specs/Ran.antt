@@ -1,13 +1,12 @@
 -- What a run promises: its verdict and every byte of both areas.
-use Rattle.std.specs.Prelude.{◌≡◌, Bool, cond, List, ℕ, zero, suc, ◌*◌, eqb, length, take, replicate}
+use Rattle.std.specs.Prelude.{◌≡◌, Bool, cond, List, ℕ, zero, suc, ◌*◌, eqb, length, take, replicate, Ok, Err}
 use Rattle.lists.specs.Laid.{laid}
 use Rattle.answer.specs.Answer.{Answer, answer, accepts}
 use Rattle.answer.specs.Ending.{Ending, accepted, refused}
 use Rattle.refinement.specs.Run.{ran, after_rounds}
 use Rattle.network.specs.declared.Area.{Area}
 use Rattle.network.specs.declared.Area.TheVariants.{First, Second}
-use Rattle.network.specs.declared.Verdict.{Verdict}
-use Rattle.network.specs.declared.Verdict.TheVariants.{Accepted, Refused, Unfinished, Unprepared, OutOfRange, WrongLength}
+use Rattle.network.specs.Verdict.{Verdict}
 use Rattle.network.specs.Areas.{other, chosen, same_area, holds}
 use Rattle.network.specs.Numbers.{area_number, answer_of}
 
@@ -19,12 +18,8 @@ answered_from from (refused x) =
 
 -- an acceptance carries n and names the area that the confirming round wrote
 abbrev pub NamesFrom : ℕ → Area → Verdict → Type 0
-NamesFrom n from (Accepted regions rounds area) = (regions ≡ n) × (area ≡ holds (other from) rounds)
-NamesFrom n from (Refused contradiction rounds) = Unit
-NamesFrom n from (Unfinished rounds area) = Unit
-NamesFrom n from Unprepared = Unit
-NamesFrom n from OutOfRange = Unit
-NamesFrom n from WrongLength = Unit
+NamesFrom n from (Ok outcome) = (outcome.regions ≡ n) × (outcome.area ≡ holds (other from) outcome.rounds)
+NamesFrom n from (Err unrefined) = Unit
 
 -- where the rounds are used up, the area that does not hold the last round's matrix has the one before it, or what it held if no round
 -- has run

@@ -1,12 +1,11 @@
 -- What a refinement promises: its verdict and every byte of both areas.
-use Rattle.std.specs.Prelude.{◌≡◌, cond, List, ℕ, ◌*◌, ◌%◌, eqb, ltb, length, replicate}
+use Rattle.std.specs.Prelude.{◌≡◌, cond, List, ℕ, ◌*◌, ◌%◌, eqb, ltb, length, replicate, Ok, Err}
 use Rattle.lists.specs.Laid.{laid}
 use Rattle.answer.specs.Ending.{Ending, accepted, refused, answered}
 use Rattle.refinement.specs.Refine.{refined}
 use Rattle.network.specs.declared.Area.{Area}
 use Rattle.network.specs.declared.Area.TheVariants.{First, Second}
-use Rattle.network.specs.declared.Verdict.{Verdict}
-use Rattle.network.specs.declared.Verdict.TheVariants.{Accepted, Refused, Unfinished, Unprepared, OutOfRange, WrongLength}
+use Rattle.network.specs.Verdict.{Verdict}
 use Rattle.network.specs.Numbers.{answer_of}
 
 -- the area that the round after `count` rounds writes: the second after an even count
@@ -15,12 +14,8 @@ written count = cond (eqb (count % 2) 0) Second First
 
 -- an acceptance carries n and names the area that the confirming round wrote
 abbrev pub NamesArea : ℕ → Verdict → Type 0
-NamesArea n (Accepted regions rounds area) = (regions ≡ n) × (area ≡ written rounds)
-NamesArea n (Refused contradiction rounds) = Unit
-NamesArea n (Unfinished rounds area) = Unit
-NamesArea n Unprepared = Unit
-NamesArea n OutOfRange = Unit
-NamesArea n WrongLength = Unit
+NamesArea n (Ok outcome) = (outcome.regions ≡ n) × (outcome.area ≡ written outcome.rounds)
+NamesArea n (Err unrefined) = Unit
 
 -- what an area holds afterwards: the network in front; after 1 and 2 what it held; after 21 to 23 zeros in front
 unfoldable pub leaves : ℕ → Ending (List ℕ) → List ℕ → List ℕ

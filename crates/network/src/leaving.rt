@@ -6,7 +6,7 @@ ghost use Rattle.network.specs.Inner.{Placed, Refuses, Rests, Shares, Stops, Lea
 use crate::areas::{clear, holds, other};
 use crate::emptied::ran_out;
 use crate::turning::Ended;
-use crate::{Area, Contradiction, Verdict};
+use crate::{Accepted, Area, Contradiction, Unrefined};
 use planes::give;
 use region::Place;
 
@@ -19,17 +19,17 @@ fn refuse(
     old: &[u64],
     first: &mut [u8],
     second: &mut [u8],
-) -> Verdict
+) -> Result<Accepted, Unrefined>
     requires { (row < n) × (column < n) × (length old.now ≡ 8 * n) × Square n first.old × Square n second.old }
     ensures { Refuses n row column round old.now first.old second.old first.new second.new result }
 {
     give(n, old, first);
     let k = ran_out(n, first, row, column);
     clear(first, second);
-    Verdict::Refused(
+    Err(Unrefined::Refused(
         Contradiction::Triple(Place(row), Place(k), Place(column)),
         round,
-    )
+    ))
 }
 
 // Nothing changed: both areas hold the network.
@@ -40,17 +40,17 @@ fn accept(
     old: &[u64],
     first: &mut [u8],
     second: &mut [u8],
-) -> Verdict
+) -> Result<Accepted, Unrefined>
     requires { (length old.now ≡ 8 * n) × Square n first.old × Square n second.old }
     ensures { Rests n area count old.now first.new second.new result }
 {
     give(n, old, first);
     give(n, old, second);
-    Verdict::Accepted {
+    Ok(Accepted {
         regions: n,
         rounds: count,
         area: holds(other(area), count),
-    }
+    })
 }
 
 // The rounds are used up: the last one's matrix into the area named, the one before it into the other.
@@ -79,22 +79,18 @@ fn use_up(
     new: &[u64],
     first: &mut [u8],
     second: &mut [u8],
-) -> Verdict
+) -> Result<Accepted, Unrefined>
     requires { (length old.now ≡ 8 * n) × (length new.now ≡ 8 * n) × Square n first.old × Square n second.old }
     ensures { Stops n area count old.now new.now first.old second.old first.new second.new result }
 {
     let named = holds(area, count);
-    if count == 0 {
-        return Verdict::Unfinished {
-            rounds: count,
-            area: named,
-        };
+    if count != 0 {
+        give_both(n, named, old, new, first, second);
     }
-    give_both(n, named, old, new, first, second);
-    Verdict::Unfinished {
+    Err(Unrefined::Unfinished {
         rounds: count,
         area: named,
-    }
+    })
 }
 
 // By how the rounds ended.
@@ -106,7 +102,7 @@ pub(crate) fn leave(
     new: &[u64],
     first: &mut [u8],
     second: &mut [u8],
-) -> Verdict
+) -> Result<Accepted, Unrefined>
     requires { Placed n ended × (length old.now ≡ 8 * n) × (length new.now ≡ 8 * n) × Square n first.old × Square n second.old }
     ensures { Leaves n area ended old.now new.now first.old second.old first.new second.new result }
 {

@@ -15,15 +15,7 @@ ghost use Rattle.network.specs.Ran.{Ran};
 ghost use Rattle.network.specs.Refined.{Refined};
 ghost use Rattle.network.specs.Handed.{Handed};
 
-use region::Place;
-
-// Where the sets run empty: at a region, at a pair, or along a triple.
-#[derive(Clone, Copy)]
-pub enum Contradiction {
-    Region(Place),
-    Pair(Place, Place),
-    Triple(Place, Place, Place),
-}
+pub use refinement::Contradiction;
 
 // One of the two lent work areas.
 #[derive(Clone, Copy)]
@@ -32,35 +24,23 @@ pub enum Area {
     Second,
 }
 
+// Refined: the number of regions, how many rounds changed something, and the area that the confirming round wrote.
 #[derive(Clone, Copy)]
-pub enum Verdict {
-    // Refined: the number of regions, how many rounds changed something, and the area that the confirming round wrote.
-    Accepted {
-        regions: usize,
-        rounds: usize,
-        area: Area,
-    },
-    // Refused, with the number of the refusing round, or 0 before the first.
-    Refused(Contradiction, usize),
-    // The rounds are used up: how many were made, and the area that holds the last one's network.
-    Unfinished {
-        rounds: usize,
-        area: Area,
-    },
-    // The network to start from has an empty set, a diagonal other than equal, or a pair not converse.
-    Unprepared,
-    // The number of regions is not from 1 to 64.
-    OutOfRange,
-    // The cells are not n², or an area is shorter.
-    WrongLength,
+pub struct Accepted {
+    pub regions: usize,
+    pub rounds: usize,
+    pub area: Area,
 }
 
-// What preparation comes to.
+// Why a call leaves no refined network, or a preparation nothing to start from.
 #[derive(Clone, Copy)]
-pub enum Start {
-    // The first area holds what the rounds start from.
-    Ready,
-    Refused(Contradiction),
+pub enum Unrefined {
+    // A contradiction, with the number of the refusing round, or 0 before the first.
+    Refused(Contradiction, usize),
+    // The rounds are used up: how many were made, and the area that holds the last one's network.
+    Unfinished { rounds: usize, area: Area },
+    // The network to start from has an empty set, a diagonal other than equal, or a pair not converse.
+    Unprepared,
     // The number of regions is not from 1 to 64.
     OutOfRange,
     // The cells are not n², or an area is shorter.
@@ -71,86 +51,83 @@ pub enum Start {
 const ENOUGH: usize = 14113;
 
 // Prepares the matrix of n regions: the checks, then the node and arc rules. The rounds can start from the first area.
-pub fn prepare(n: usize, cells: &[u8], first: &mut [u8], second: &mut [u8]) -> Start
+pub fn prepare(n: usize, cells: &[u8], first: &mut [u8], second: &mut [u8]) -> Result<(), Unrefined>
     ensures { Prepared n cells.now first.old second.old first.new second.new result }
 {
     if !matrix::in_range(n) {
-        return Start::OutOfRange;
+        return Err(Unrefined::OutOfRange);
     }
     let size = n * n;
     if cells.len() != size {
-        return Start::WrongLength;
+        return Err(Unrefined::WrongLength);
     }
     let room = first.len();
     if room < size {
-        return Start::WrongLength;
+        return Err(Unrefined::WrongLength);
     }
     if second.len() < size {
-        return Start::WrongLength;
+        return Err(Unrefined::WrongLength);
     }
     preparing::make_ready(n, cells, &mut first[..size], &mut second[..size])
 }
 
 // Up to so many rounds, the confirming one included, from the network in the area named.
-pub fn run(n: usize, area: Area, most: usize, first: &mut [u8], second: &mut [u8]) -> Verdict
+pub fn run(
+    n: usize,
+    area: Area,
+    most: usize,
+    first: &mut [u8],
+    second: &mut [u8],
+) -> Result<Accepted, Unrefined>
     ensures { Ran n area most first.old second.old first.new second.new result }
 {
     if !matrix::in_range(n) {
-        return Verdict::OutOfRange;
+        return Err(Unrefined::OutOfRange);
     }
     let size = n * n;
     if first.len() < size {
-        return Verdict::WrongLength;
+        return Err(Unrefined::WrongLength);
     }
     if second.len() < size {
-        return Verdict::WrongLength;
+        return Err(Unrefined::WrongLength);
     }
     rounds::run(n, area, most, &mut first[..size], &mut second[..size])
 }
 
 // Refines the matrix of n regions; the cells are read only, the two areas are worked in.
-pub fn refine(n: usize, cells: &[u8], first: &mut [u8], second: &mut [u8]) -> Verdict
+pub fn refine(
+    n: usize,
+    cells: &[u8],
+    first: &mut [u8],
+    second: &mut [u8],
+) -> Result<Accepted, Unrefined>
     ensures { Refined n cells.now first.old second.old first.new second.new result }
 {
-    let start = prepare(n, cells, first, second);
-    match start {
-        Start::Ready => run(n, Area::First, ENOUGH, first, second),
-        Start::Refused(contradiction) => Verdict::Refused(contradiction, 0),
-        Start::OutOfRange => Verdict::OutOfRange,
-        Start::WrongLength => Verdict::WrongLength,
-    }
+    prepare(n, cells, first, second)?;
+    run(n, Area::First, ENOUGH, first, second)
 }
 
 // The network of an accepting verdict: the first n² bytes of the area that it names, that area itself. An empty part of the
 // first area for a refusal, an n outside 1 to 64, or an area shorter than n².
-pub fn network<'a>(first: &'a [u8], second: &'a [u8], verdict: Verdict) -> &'a [u8]
+pub fn network<'a>(
+    first: &'a [u8],
+    second: &'a [u8],
+    verdict: Result<Accepted, Unrefined>,
+) -> &'a [u8]
     ensures { Handed first.now second.now first.entry.ref_ptr second.entry.ref_ptr verdict result.now result.ref_ptr }
 {
-    match verdict {
-        Verdict::Accepted {
-            regions,
-            rounds: _,
-            area,
-        } => {
-            if !matrix::in_range(regions) {
-                return &first[..0];
-            }
-            let size = regions * regions;
-            if first.len() < size {
-                return &first[..0];
-            }
-            if second.len() < size {
-                return &first[..0];
-            }
-            match area {
-                Area::First => &first[..size],
-                Area::Second => &second[..size],
-            }
-        }
-        Verdict::Refused(_, _) => &first[..0],
-        Verdict::Unfinished { rounds: _, area: _ } => &first[..0],
-        Verdict::Unprepared => &first[..0],
-        Verdict::OutOfRange => &first[..0],
-        Verdict::WrongLength => &first[..0],
+    let Ok(Accepted { regions, area, .. }) = verdict else {
+        return &first[..0];
+    };
+    if !matrix::in_range(regions) {
+        return &first[..0];
+    }
+    let size = regions * regions;
+    if first.len() < size || second.len() < size {
+        return &first[..0];
+    }
+    match area {
+        Area::First => &first[..size],
+        Area::Second => &second[..size],
     }
 }

@@ -3,12 +3,12 @@ ghost use Rattle.std.specs.Prelude.{◌≡◌};
 ghost use Rattle.answer.specs.Told.{told};
 ghost use Rattle.network.specs.Numbers.{area_number, answer_of, answer_of_start};
 
-use crate::{Area, Contradiction, Start, Verdict};
+use crate::{Accepted, Area, Contradiction, Unrefined};
 use answer::{Numbers, tell};
 
 // The numbers of a contradiction that a refinement ran into after so many rounds.
 fn of_contradiction(contradiction: Contradiction, rounds: usize) -> Numbers
-    ensures { told result ≡ answer_of (Verdict.Refused contradiction rounds) }
+    ensures { told result ≡ answer_of (Err (Unrefined.Refused contradiction rounds)) }
 {
     match contradiction {
         Contradiction::Region(i) => tell(21, i.0, 0, 0, rounds),
@@ -27,30 +27,33 @@ fn of_area(area: Area) -> usize
     }
 }
 
-pub fn of_verdict(verdict: Verdict) -> Numbers
-    ensures { told result ≡ answer_of verdict }
+// The numbers of a call that leaves no refined network.
+fn of_unrefined(unrefined: Unrefined) -> Numbers
+    ensures { told result ≡ answer_of (Err unrefined) }
 {
-    match verdict {
-        Verdict::Accepted {
-            regions: _,
-            rounds,
-            area: _,
-        } => tell(0, 0, 0, 0, rounds),
-        Verdict::Refused(contradiction, rounds) => of_contradiction(contradiction, rounds),
-        Verdict::Unfinished { rounds, area } => tell(24, of_area(area), 0, 0, rounds),
-        Verdict::Unprepared => tell(25, 0, 0, 0, 0),
-        Verdict::OutOfRange => tell(1, 0, 0, 0, 0),
-        Verdict::WrongLength => tell(2, 0, 0, 0, 0),
+    match unrefined {
+        Unrefined::Refused(contradiction, rounds) => of_contradiction(contradiction, rounds),
+        Unrefined::Unfinished { rounds, area } => tell(24, of_area(area), 0, 0, rounds),
+        Unrefined::Unprepared => tell(25, 0, 0, 0, 0),
+        Unrefined::OutOfRange => tell(1, 0, 0, 0, 0),
+        Unrefined::WrongLength => tell(2, 0, 0, 0, 0),
     }
 }
 
-pub fn of_start(start: Start) -> Numbers
+pub fn of_verdict(verdict: Result<Accepted, Unrefined>) -> Numbers
+    ensures { told result ≡ answer_of verdict }
+{
+    match verdict {
+        Ok(accepted) => tell(0, 0, 0, 0, accepted.rounds),
+        Err(unrefined) => of_unrefined(unrefined),
+    }
+}
+
+pub fn of_start(start: Result<(), Unrefined>) -> Numbers
     ensures { told result ≡ answer_of_start start }
 {
     match start {
-        Start::Ready => tell(0, 0, 0, 0, 0),
-        Start::Refused(contradiction) => of_contradiction(contradiction, 0),
-        Start::OutOfRange => tell(1, 0, 0, 0, 0),
-        Start::WrongLength => tell(2, 0, 0, 0, 0),
+        Ok(()) => tell(0, 0, 0, 0, 0),
+        Err(unrefined) => of_unrefined(unrefined),
     }
 }

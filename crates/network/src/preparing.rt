@@ -6,10 +6,10 @@ ghost use Rattle.refinement.specs.Arc.{arc_cell};
 ghost use Rattle.refinement.specs.Prepare.{prepared};
 ghost use Rattle.network.specs.Inner.{Prepares, Readies, started_with};
 
+use crate::Unrefined;
 use crate::areas::clear;
-use crate::{Contradiction, Start};
 use matrix::at;
-use refinement::Preparation;
+use refinement::Contradiction;
 use region::Place;
 use relation::RelationSet;
 
@@ -63,37 +63,35 @@ fn arc_stage(n: usize, cells: &[u8], area: &mut [u8])
 }
 
 // The node and arc rules; the first area then holds what the rounds start from, unless a set ran empty.
-fn node_and_arc(n: usize, cells: &[u8], first: &mut [u8]) -> Preparation
+fn node_and_arc(n: usize, cells: &[u8], first: &mut [u8]) -> Result<(), Contradiction>
     requires { Square n cells.now × Square n first.old }
     ensures { Prepares n cells.now first.old first.new result }
 {
     let i = emptied_region(n, cells);
     if i < n {
-        return Preparation::Region(Place(i));
+        return Err(Contradiction::Region(Place(i)));
     }
     arc_stage(n, cells, first);
     let place = matrix::first_empty(first);
     if place < first.len() {
-        return Preparation::Pair(Place(place / n), Place(place % n));
+        return Err(Contradiction::Pair(Place(place / n), Place(place % n)));
     }
-    Preparation::Ready
+    Ok(())
 }
 
 // Preparation in areas of exactly n² bytes: a contradiction clears both.
-pub(crate) fn make_ready(n: usize, cells: &[u8], first: &mut [u8], second: &mut [u8]) -> Start
+pub(crate) fn make_ready(
+    n: usize,
+    cells: &[u8],
+    first: &mut [u8],
+    second: &mut [u8],
+) -> Result<(), Unrefined>
     requires { Square n cells.now × Square n first.old × Square n second.old }
     ensures { Readies n (started_with n cells.now) first.old second.old first.new second.new result }
 {
-    let preparation = node_and_arc(n, cells, first);
-    match preparation {
-        Preparation::Region(i) => {
-            clear(first, second);
-            Start::Refused(Contradiction::Region(i))
-        }
-        Preparation::Pair(i, j) => {
-            clear(first, second);
-            Start::Refused(Contradiction::Pair(i, j))
-        }
-        Preparation::Ready => Start::Ready,
+    if let Err(contradiction) = node_and_arc(n, cells, first) {
+        clear(first, second);
+        return Err(Unrefined::Refused(contradiction, 0));
     }
+    Ok(())
 }

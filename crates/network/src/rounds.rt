@@ -8,7 +8,7 @@ ghost use Rattle.network.specs.Inner.{Room, Startable, Ends, Meets, rounds_or};
 use crate::leaving::leave;
 use crate::plain::is_plain_in;
 use crate::turning::{Ended, some_rounds};
-use crate::{Area, Verdict};
+use crate::{Accepted, Area, Unrefined};
 
 // Up to so many rounds from the matrix in the area named.
 fn rounds_from(
@@ -40,7 +40,7 @@ fn run_in(
     old: &mut [u64],
     new: &mut [u64],
     onward: &mut [u64],
-) -> Verdict
+) -> Result<Accepted, Unrefined>
     requires { Startable n (chosen area first.old second.old) × Room n (length old.old) (length new.old) (length onward.old) × Square n first.old × Square n second.old }
     ensures { Meets n area (rounds most n 0 (chosen area first.old second.old)) first.old second.old first.new second.new result }
 {
@@ -49,7 +49,13 @@ fn run_in(
 }
 
 // The rounds of up to 16 regions: with less room, which is filled with 0 before anything else.
-fn run_few(n: usize, area: Area, most: usize, first: &mut [u8], second: &mut [u8]) -> Verdict
+fn run_few(
+    n: usize,
+    area: Area,
+    most: usize,
+    first: &mut [u8],
+    second: &mut [u8],
+) -> Result<Accepted, Unrefined>
     requires { (n ≤ 16) × Startable n (chosen area first.old second.old) × Square n first.old × Square n second.old }
     ensures { Meets n area (rounds most n 0 (chosen area first.old second.old)) first.old second.old first.new second.new result }
 {
@@ -70,7 +76,13 @@ fn run_few(n: usize, area: Area, most: usize, first: &mut [u8], second: &mut [u8
 }
 
 // The rounds of up to 64 regions.
-fn run_many(n: usize, area: Area, most: usize, first: &mut [u8], second: &mut [u8]) -> Verdict
+fn run_many(
+    n: usize,
+    area: Area,
+    most: usize,
+    first: &mut [u8],
+    second: &mut [u8],
+) -> Result<Accepted, Unrefined>
     requires { (n ≤ 64) × Startable n (chosen area first.old second.old) × Square n first.old × Square n second.old }
     ensures { Meets n area (rounds most n 0 (chosen area first.old second.old)) first.old second.old first.new second.new result }
 {
@@ -91,12 +103,18 @@ fn run_many(n: usize, area: Area, most: usize, first: &mut [u8], second: &mut [u
 }
 
 // A run in areas of exactly n² bytes: the matrix is tested first.
-pub(crate) fn run(n: usize, area: Area, most: usize, first: &mut [u8], second: &mut [u8]) -> Verdict
+pub(crate) fn run(
+    n: usize,
+    area: Area,
+    most: usize,
+    first: &mut [u8],
+    second: &mut [u8],
+) -> Result<Accepted, Unrefined>
     requires { Square n first.old × Square n second.old }
     ensures { Meets n area (rounds_or n most (chosen area first.old second.old)) first.old second.old first.new second.new result }
 {
     if !is_plain_in(n, area, first, second) {
-        return Verdict::Unprepared;
+        return Err(Unrefined::Unprepared);
     }
     if n <= 16 {
         return run_few(n, area, most, first, second);

@@ -11,11 +11,10 @@ use Rattle.relation.specs.Converse.{converse}
 use Rattle.relation.proofs.ConverseLaws.{converse-empty}
 use Rattle.matrix.specs.Cells.{cell}
 use Rattle.matrix.proofs.CellLaws.{place_above}
-use Rattle.refinement.specs.declared.Preparation.{Preparation}
 use Rattle.refinement.specs.declared.Step.{Step}
 use Rattle.refinement.specs.Node.{node}
 use Rattle.refinement.specs.Arc.{arc}
-use Rattle.refinement.specs.Prepare.{prepared}
+use Rattle.refinement.specs.Prepare.{Preparation, prepared}
 use Rattle.refinement.specs.Round.{round}
 use Rattle.refinement.specs.Refine.{most_rounds, stepped, rounds, all_rounds, started, refine}
 use Rattle.refinement.specs.Plain.{Plain}

@@ -4,6 +4,7 @@ use mathlib.Core.List.{List}
 use Prim.Native.Nat.{ℕ, ◌+◌, ◌*◌, ◌≤◌, ◌<◌}
 use native.Mathlib.Omega.{arith}
 use borrow.Author.Tests.{lt-ltb, le-ltb}
+use Rattle.std.specs.Prelude.{Ok, Err}
 use Rattle.answer.specs.Answer.{answer}
 use Rattle.answer.specs.Ending.{refused}
 use Rattle.lists.proofs.Splits.{split_lt}
@@ -12,26 +13,25 @@ use Rattle.region.specs.declared.Place.{Place}
 use Rattle.relation.specs.Sets.{empty}
 use Rattle.matrix.specs.Cells.{cell, row, column, first_empty}
 use Rattle.matrix.proofs.CellLaws.{row_lt, column_lt, place-back, empty_at, empty-first, no_empty}
-use Rattle.refinement.specs.declared.Preparation.{Preparation}
-use Rattle.refinement.specs.declared.Preparation.TheVariants.{Region, Pair, Ready}
+use Rattle.refinement.specs.declared.Contradiction.TheVariants.{Region, Pair}
 use Rattle.refinement.specs.Node.{node, empty_region}
-use Rattle.refinement.specs.Prepare.{prepared, preparation}
+use Rattle.refinement.specs.Prepare.{Preparation, prepared, preparation}
 use Rattle.refinement.specs.Refine.{refine, all_rounds, started}
 use Rattle.refinement.proofs.Stages.{region_empty, no_region_empty}
 
 -- ---- from the searches
 
 module _ (n : ℕ) (m : List ℕ) where
-  pub preparation_region : (i : ℕ) → i ≡ empty_region n (node n m) → i < n → preparation n m ≡ Region (place i)
+  pub preparation_region : (i : ℕ) → i ≡ empty_region n (node n m) → i < n → preparation n m ≡ Err (Region (place i))
   unfolding preparation
   preparation_region i e h = rw (← e, lt-ltb i n h)
 
   pub preparation_pair : n ≤ empty_region n (node n m) → (p : ℕ) → p ≡ first_empty (n * n) (prepared n m) → p < n * n
-      → preparation n m ≡ Pair (place (row n p)) (place (column n p))
+      → preparation n m ≡ Err (Pair (place (row n p)) (place (column n p)))
   unfolding preparation
   preparation_pair l p e h = rw (le-ltb (empty_region n (node n m)) n l, ← e, lt-ltb p (n * n) h)
 
-  pub preparation_ready : n ≤ empty_region n (node n m) → n * n ≤ first_empty (n * n) (prepared n m) → preparation n m ≡ Ready
+  pub preparation_ready : n ≤ empty_region n (node n m) → n * n ≤ first_empty (n * n) (prepared n m) → preparation n m ≡ Ok tt
   unfolding preparation
   preparation_ready l h =
       rw (le-ltb (empty_region n (node n m)) n l, le-ltb (first_empty (n * n) (prepared n m)) (n * n) h)
@@ -57,8 +57,8 @@ pub record NoneEmpty (n : ℕ) (m : List ℕ) : Type 0 where
   pub cells : n * n ≤ first_empty (n * n) (prepared n m)
 
 -- whatever holds in each of the three cases holds of what preparing comes to
-pub by_preparation : (P : Preparation → Type 0) (n : ℕ) (m : List ℕ) → ((i : ℕ) → RegionEmpty n m i → P (Region (place i)))
-    → ((i j : ℕ) → PairEmpty n m i j → P (Pair (place i) (place j))) → (NoneEmpty n m → P Ready) → P (preparation n m)
+pub by_preparation : (P : Preparation → Type 0) (n : ℕ) (m : List ℕ) → ((i : ℕ) → RegionEmpty n m i → P (Err (Region (place i))))
+    → ((i j : ℕ) → PairEmpty n m i j → P (Err (Pair (place i) (place j)))) → (NoneEmpty n m → P (Ok tt)) → P (preparation n m)
 by_preparation P n m region pair ready =
     let i : ℕ = empty_region n (node n m) in
     let p : ℕ = first_empty (n * n) (prepared n m) in
@@ -77,22 +77,22 @@ by_preparation P n m region pair ready =
     (λ h. rw (preparation_ready n m l h) (ready (record { regions = l; cells = h }))))
 
 -- ready means that nothing is empty
-pub ready_none_empty : (n : ℕ) (m : List ℕ) → preparation n m ≡ Ready → NoneEmpty n m
+pub ready_none_empty : (n : ℕ) (m : List ℕ) → preparation n m ≡ Ok tt → NoneEmpty n m
 ready_none_empty n m =
-    by_preparation (λ (answer : Preparation). answer ≡ Ready → NoneEmpty n m) n m
-    (λ i e q. absurd (let z : ◌≡◌ {A = ℕ} 0 1 = cc in omega arith))
-    (λ i j e q. absurd (let z : ◌≡◌ {A = ℕ} 0 1 = cc in omega arith))
+    by_preparation (λ (answer : Preparation). answer ≡ Ok tt → NoneEmpty n m) n m
+    (λ i e q. cc)
+    (λ i j e q. cc)
     (λ e q. e)
 
 -- and back: an empty region or pair anywhere is enough
 pub record AtSomeRegion (n : ℕ) (m : List ℕ) : Type 0 where
   pub region : Place
-  pub is : preparation n m ≡ Region region
+  pub is : preparation n m ≡ Err (Region region)
 
 pub record AtSomePair (n : ℕ) (m : List ℕ) : Type 0 where
   pub first : Place
   pub second : Place
-  pub is : preparation n m ≡ Pair first second
+  pub is : preparation n m ≡ Err (Pair first second)
 
 pub some_region : {n : ℕ} (m : List ℕ) {i : ℕ} → i < n → cell n (node n m) i i ≡ empty → AtSomeRegion n m
 some_region {n} m {i} h e =

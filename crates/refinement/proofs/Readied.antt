@@ -5,12 +5,12 @@ use mathlib.Core.List.{List}
 use Prim.Native.Nat.{ℕ, ◌*◌, ◌≤◌, ◌<◌}
 use native.Mathlib.Omega.{arith}
 use lib.ListN.{length}
+use Rattle.std.specs.Prelude.{Ok, Err}
 use Rattle.answer.specs.Answer.{answer}
 use Rattle.answer.specs.Ending.{Ending, accepted, refused, answered}
 use Rattle.matrix.specs.Square.{in_range}
-use Rattle.refinement.specs.declared.Preparation.{Preparation}
-use Rattle.refinement.specs.declared.Preparation.TheVariants.{Region, Pair, Ready}
-use Rattle.refinement.specs.Prepare.{prepared, preparation}
+use Rattle.refinement.specs.declared.Contradiction.TheVariants.{Region, Pair, Triple}
+use Rattle.refinement.specs.Prepare.{Preparation, prepared, preparation}
 use Rattle.refinement.specs.Refine.{started, all_rounds, refine, refined}
 use Rattle.refinement.specs.Run.{readied}
 use Rattle.refinement.specs.InRange.{InRange}
@@ -22,19 +22,21 @@ use Rattle.refinement.proofs.Limits.{limits_follow, limits_outside, limits_wrong
 -- the rounds can start
 pub record Readied (n : ℕ) (m : List ℕ) (first second : ℕ) : Type 0 where
   pub range : InRange n m first second
-  pub ready : preparation n m ≡ Ready
+  pub ready : preparation n m ≡ Ok tt
 
--- only ready goes without a number
-number_ready : (a : Preparation) (ready : Ending (List ℕ)) → (answered (started a (λ _. ready))).number ≡ 0 → a ≡ Ready
-number_ready (Region i) ready e = absurd (omega (arith, e))
-number_ready (Pair i j) ready e = absurd (omega (arith, e))
-number_ready Ready ready e = refl
+-- only what is ready goes without a number
+number_ready : (a : Preparation) (ready : Ending (List ℕ)) → (answered (started a (λ _. ready))).number ≡ 0 → a ≡ Ok tt
+number_ready (Ok tt) ready e = refl
+number_ready (Err (Region i)) ready e = absurd (omega (arith, e))
+number_ready (Err (Pair i j)) ready e = absurd (omega (arith, e))
+number_ready (Err (Triple i k j)) ready e = absurd (omega (arith, e))
 
 number_refused : (a : Preparation) (m : List ℕ) (other : Ending (List ℕ)) → ((answered (started a (λ _. accepted m 0))).number ≡ 0 → ⊥)
     → started a (λ _. other) ≡ started a (λ _. accepted m 0)
-number_refused (Region i) m other h = refl
-number_refused (Pair i j) m other h = refl
-number_refused Ready m other h = absurd (h refl)
+number_refused (Ok ready) m other h = absurd (h refl)
+number_refused (Err (Region i)) m other h = refl
+number_refused (Err (Pair i j)) m other h = refl
+number_refused (Err (Triple i k j)) m other h = refl
 
 -- of an accepted matrix it is accepted too
 pub accepted-readied : {n : ℕ} {m w : List ℕ} {first second count : ℕ} → InRange n m first second → refine n m ≡ accepted w count

@@ -4,6 +4,7 @@ use mathlib.Core.Path.{◌≡◌, refl, sym, ap, ap₂, ◌∙◌, subst}
 use mathlib.Core.List.{List}
 use Prim.Native.Nat.{ℕ, zero, suc, ◌*◌, ◌≤◌, ◌<◌}
 use lib.ListN.{length}
+use Rattle.std.specs.Prelude.{Ok}
 use Rattle.answer.specs.Answer.{Answer}
 use Rattle.answer.specs.Ending.{Ending, accepted, refused}
 use Rattle.lists.proofs.Splits.{split_eq}
@@ -14,13 +15,11 @@ use Rattle.relation.specs.Composition.{compose}
 use Rattle.relation.proofs.Within.{within_antisym, within_of_eq, within_trans}
 use Rattle.matrix.specs.Cells.{cell}
 use Rattle.matrix.proofs.CellLaws.{Change, length-grid, cell-grid, ext_cell, no_empty, none-empty}
-use Rattle.refinement.specs.declared.Preparation.{Preparation}
-use Rattle.refinement.specs.declared.Preparation.TheVariants.{Ready}
 use Rattle.refinement.specs.declared.Step.{Step}
 use Rattle.refinement.specs.declared.Step.TheVariants.{Same, Changed}
 use Rattle.refinement.specs.Node.{node, empty_region}
 use Rattle.refinement.specs.Arc.{arc}
-use Rattle.refinement.specs.Prepare.{prepared, preparation}
+use Rattle.refinement.specs.Prepare.{Preparation, prepared, preparation}
 use Rattle.refinement.specs.Round.{through, round}
 use Rattle.refinement.specs.Step.{step_of}
 use Rattle.refinement.specs.Refine.{most_rounds, stepped, rounds, all_rounds, started, refine}
@@ -148,7 +147,7 @@ module _ (n : ℕ) (π : Renumbering n) where
       some_pair (renumbered n π m) (renumber_regions m e.regions) (π.from-below i e.first) (π.from-below j e.second)
       (rw (renumber_prepared m) (cell-back (prepared n m) i j e.first e.second ∙ e.empties))
 
-  ready_renumbered : (m : List ℕ) → NoneEmpty n m → preparation n (renumbered n π m) ≡ Ready
+  ready_renumbered : (m : List ℕ) → NoneEmpty n m → preparation n (renumbered n π m) ≡ Ok tt
   ready_renumbered m e =
       preparation_ready n (renumbered n π m) (renumber_regions m e.regions)
       (rw (renumber_prepared m)

@@ -1,13 +1,12 @@
 -- The refinement of a matrix: preparation, then rounds until one changes nothing or empties a cell.
-use Rattle.std.specs.Prelude.{ℕ, zero, suc, ◌*◌, ◌-◌, ◌/◌, not, ◌&&◌, List, leb}
+use Rattle.std.specs.Prelude.{ℕ, zero, suc, ◌*◌, ◌-◌, ◌/◌, not, ◌&&◌, List, leb, Ok, Err}
 use Rattle.answer.specs.Answer.{answer}
 use Rattle.answer.specs.Ending.{Ending, accepted, refused, stop}
 use Rattle.matrix.specs.Square.{in_range, has_square}
-use Rattle.refinement.specs.declared.Preparation.{Preparation}
-use Rattle.refinement.specs.declared.Preparation.TheVariants.{Region, Pair, Ready}
+use Rattle.refinement.specs.declared.Contradiction.TheVariants.{Region, Pair, Triple}
 use Rattle.refinement.specs.declared.Step.{Step}
 use Rattle.refinement.specs.declared.Step.TheVariants.{Empty, Same, Changed}
-use Rattle.refinement.specs.Prepare.{prepared, preparation}
+use Rattle.refinement.specs.Prepare.{Preparation, prepared, preparation}
 use Rattle.refinement.specs.Round.{round}
 use Rattle.refinement.specs.Step.{step_of}
 
@@ -31,11 +30,12 @@ rounds (suc more) n count old = stepped (step_of n old) count old (λ _. rounds 
 abbrev pub all_rounds : ℕ → List ℕ → Ending (List ℕ)
 all_rounds n m = rounds (suc (most_rounds n)) n 0 m
 
--- a preparation: refused with 21 or 22, or what follows
+-- a preparation: what follows, or refused with 21 or 22; it never ends along a triple, which is 23
 abbrev pub started : Preparation → (Unit {0} → Ending (List ℕ)) → Ending (List ℕ)
-started (Region i) follows = refused (answer 21 i.0 0 0 0)
-started (Pair i j) follows = refused (answer 22 i.0 j.0 0 0)
-started Ready follows = follows tt
+started (Ok ready) follows = follows tt
+started (Err (Region i)) follows = refused (answer 21 i.0 0 0 0)
+started (Err (Pair i j)) follows = refused (answer 22 i.0 j.0 0 0)
+started (Err (Triple i k j)) follows = refused (answer 23 i.0 k.0 j.0 0)
 
 unfoldable pub refine : ℕ → List ℕ → Ending (List ℕ)
 refine n m = started (preparation n m) (λ _. all_rounds n (prepared n m))

@@ -4,12 +4,12 @@
 
 use region::Place;
 
-// What the node and arc rules come to: a region or a pair left with no relation, or a matrix from which rounds can start.
+// Where the sets run empty: at a region, at a pair, or along a triple.
 #[derive(Clone, Copy)]
-pub enum Preparation {
+pub enum Contradiction {
     Region(Place),
     Pair(Place, Place),
-    Ready,
+    Triple(Place, Place, Place),
 }
 
 // What a round comes to: a cell ran empty, with the three regions named; nothing changed; something did.

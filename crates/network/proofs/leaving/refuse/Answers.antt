@@ -3,11 +3,12 @@ use mathlib.Core.Path.{sym, ap, ◌∙◌}
 use mathlib.Core.List.{List}
 use Prim.Native.Nat.{ℕ}
 use lib.ListN.{length, replicate}
+use Rattle.std.specs.Prelude.{Err}
 use Rattle.region.specs.Lookup.{place}
 use Rattle.refinement.specs.Round.{ran_out}
 use Rattle.round.proofs.Steps.{gives}
-use Rattle.network.specs.declared.Contradiction.TheVariants.{Triple}
-use Rattle.network.specs.declared.Verdict.TheVariants.{Refused}
+use Rattle.refinement.specs.declared.Contradiction.TheVariants.{Triple}
+use Rattle.network.specs.declared.Unrefined.TheVariants.{Refused}
 use Rattle.network.proofs.Left.{size_of}
 use Rattle.network.proofs.leaving.refuse.Goals as goal
 
@@ -16,7 +17,7 @@ returns c =
     let a = c.args in
     let there = c.give.ensures ∙ gives c.requires.3 a.old.now c.requires.2 in
     record {
-      told = ap (λ (k : ℕ). Refused (Triple (place a.row) (place k) (place a.column)) a.round)
+      told = ap (λ (k : ℕ). Err (Refused (Triple (place a.row) (place k) (place a.column)) a.round))
           (c.ran_out-k.ensures ∙ ap (λ (m : List ℕ). ran_out a.n m a.row a.column) there);
       cleared = record {
         in_first = c.clear.ensures.in_first

@@ -1,19 +1,13 @@
 -- `preparing::make_ready` meets its contract: what the two rules found decides.
 use mathlib.Core.Path.{◌∙◌}
-use Rattle.network.proofs.Prepared.{readies_ready, readies_region, readies_pair}
+use Rattle.network.proofs.Prepared.{readies_ready, readies_refused}
 use Rattle.network.proofs.preparing.make_ready.Goals as goal
 
-pub returns-in-Region : goal.returns-in-Region
-returns-in-Region c =
+pub returns-in-Err : goal.returns-in-Err
+returns-in-Err c =
     let pre = c.requires in
-    readies_region c.node_and_arc-preparation.ensures pre.1 pre.2 (c.node_and_arc-preparation.auto.first ∙ c.requires.1.size) c.clear.ensures c.in-Region.is
+    readies_refused c.node_and_arc.ensures pre.1 pre.2 (c.node_and_arc.auto.first ∙ c.requires.1.size) c.clear.ensures c.in-Err.is
 
-pub returns-in-Pair : goal.returns-in-Pair
-returns-in-Pair c =
-    let pre = c.requires in
-    readies_pair c.node_and_arc-preparation.ensures pre.1 pre.2 (c.node_and_arc-preparation.auto.first ∙ c.requires.1.size) c.clear-in-Pair.ensures c.in-Pair.is
-
-pub returns-in-Ready : goal.returns-in-Ready
-returns-in-Ready c =
-    let pre = c.requires in
-    readies_ready c.node_and_arc-preparation.ensures pre.1 pre.2 c.in-Ready.is
+pub returns : goal.returns
+returns c =
+    let pre = c.requires in readies_ready c.node_and_arc.ensures pre.1 pre.2 c.in_default.is
