@@ -18,14 +18,14 @@ ghost use Rattle.network.specs.Handed.{Handed};
 pub use refinement::Contradiction;
 
 // One of the two lent work areas.
-#[derive(Clone, Copy)]
+#[derive(Clone, Copy, PartialEq, Eq, Debug)]
 pub enum Area {
     First,
     Second,
 }
 
 // Refined: the number of regions, how many rounds changed something, and the area that the confirming round wrote.
-#[derive(Clone, Copy)]
+#[derive(Clone, Copy, PartialEq, Eq, Debug)]
 pub struct Accepted {
     pub regions: usize,
     pub rounds: usize,
@@ -33,7 +33,7 @@ pub struct Accepted {
 }
 
 // Why a call leaves no refined network, or a preparation nothing to start from.
-#[derive(Clone, Copy)]
+#[derive(Clone, Copy, PartialEq, Eq, Debug)]
 pub enum Unrefined {
     // A contradiction, with the number of the refusing round, or 0 before the first.
     Refused(Contradiction, usize),

@@ -5,7 +5,7 @@
 use region::Place;
 
 // Where the sets run empty: at a region, at a pair, or along a triple.
-#[derive(Clone, Copy)]
+#[derive(Clone, Copy, PartialEq, Eq, Debug)]
 pub enum Contradiction {
     Region(Place),
     Pair(Place, Place),
@@ -13,7 +13,7 @@ pub enum Contradiction {
 }
 
 // What a round comes to: a cell ran empty, with the three regions named; nothing changed; something did.
-#[derive(Clone, Copy)]
+#[derive(Clone, Copy, PartialEq, Eq, Debug)]
 pub enum Step {
     Empty(Place, Place, Place),
     Same,
