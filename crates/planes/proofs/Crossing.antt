@@ -1,15 +1,15 @@
 -- Between cells and planes: a row of cells is a block, and a block a row of cells; the loops that cross row by row.
-use Prim.Native.Nat.{ℕ, ◌+◌, ◌*◌, ◌/◌, ◌<◌, ◌≤◌}
+use Prim.Native.Nat.{ℕ, ◌+◌, ◌*◌, ◌-◌, ◌/◌, ◌<◌, ◌≤◌}
 use mathlib.Core.Path.{◌≡◌, refl, sym, ap, ap₂, ◌∙◌}
 use mathlib.Core.Bool.{Bool, true, false, cond, ◌&&◌, true≢false}
-use mathlib.Core.List.{List}
+use mathlib.Core.List.{List, ◌++◌}
 use native.Mathlib.Nat.{mul-le-mul_right, zero-mul}
 use native.Mathlib.Omega.{arith}
-use borrow.Author.Tests.{lt-ltb, le-ltb, leb-true, eqb-true}
-use lib.Dec.{eqb, leb, ltb}
+use borrow.Author.Tests.{lt-ltb, le-ltb}
+use lib.Dec.{ltb}
 use borrow.Rule.Slice.PartMut.{put_mid}
-use lib.ListN.{length, get_or, take, drop, length-take, get_or-eq_default}
-use lib.Seq.{get_or-take, get_or-drop}
+use lib.ListN.{length, get_or, take, drop, length-take, length-drop, length-append, get_or-eq_default}
+use lib.Seq.{get_or-take, get_or-drop, drop-drop, take-append_seam, drop-append_seam}
 use Rattle.lists.proofs.Splits.{split_lt}
 use Rattle.relation.specs.Sets.{has, universal}
 use Rattle.matrix.specs.Cells.{cell, column}
@@ -23,8 +23,8 @@ use Rattle.lanes.proofs.Sets.{mask_same}
 use Rattle.rows.specs.Rows.{row_words, row_cells, row_after}
 use Rattle.rows.proofs.Placing.{read_inside, row-served}
 use Rattle.planes.specs.Planes.{block_of, lane, lane_cell, matrix_planes, planes_matrix}
-use Rattle.planes.specs.Calls.{serves_cells, taken, given}
-use Rattle.planes.specs.Inner.{lanes_of, Square}
+use Rattle.planes.specs.Calls.{given}
+use Rattle.planes.specs.Inner.{lanes_of}
 use Rattle.planes.proofs.Laying.{part_laid, put_back}
 use Rattle.planes.proofs.Blocks.{set_block, block_planes}
 
@@ -60,12 +60,38 @@ module _ (n : ℕ) (m : List ℕ) (few : n ≤ 64) (size : length m ≡ n * n) (
       ∙ sym (ap₂ (λ (a b : Bool). cond (a && b) (cell n m i j) universal) (lt-ltb i n hi) (le-ltb j n l)))
       ∙ sym (ap₂ (λ (a b : ℕ). cond (ltb a n && ltb b n) (cell n m a b) universal) at in_row)
 
-  pub row_block : (count : ℕ) (w : List ℕ) → count ≡ n → w ≡ row_words (take count (drop (i * n) m)) → w ≡ block_of (matrix_planes n m) i
+  pub row_block : row_words (take n (drop (i * n) m)) ≡ block_of (matrix_planes n m) i
   unfolding row_words lanes_of
-  row_block count w c e =
-      e ∙ ap (λ (k : ℕ). row_words (take k (drop (i * n) m))) c
-      ∙ list_same 8 _ _ (λ r l. mask_same 64 _ _ (λ x h. ap (λ (s : ℕ). has s r) (lane-cell x h)))
+  row_block =
+      list_same 8 _ _ (λ r l. mask_same 64 _ _ (λ x h. ap (λ (s : ℕ). has s r) (lane-cell x h)))
       ∙ sym (block_planes n (lane_cell 64 n m) i hi)
+
+-- ---- the rows that are left once i of them are taken
+
+-- the next row, and those behind it
+pub record NextRow (n i : ℕ) (cells row rest : List ℕ) : Type 0 where
+  pub here : i < n
+  pub is : row ≡ take n (drop (i * n) cells)
+  pub behind : rest ≡ drop ((i + 1) * n) cells
+
+module _ (n i : ℕ) (cells left : List ℕ) (some : 1 ≤ n) (size : length cells ≡ n * n) (within : i ≤ n) (e : left ≡ drop (i * n) cells) where
+  all_left : length left ≡ n * n - i * n
+  all_left = ap length e ∙ length-drop (i * n) cells ∙ ap (λ (k : ℕ). k - i * n) size
+
+  pub next_row : (row rest : List ℕ) → left ≡ row ++ rest → length row ≡ n → NextRow n i cells row rest
+  next_row row rest q long =
+      let after : i * n + n ≡ (i + 1) * n = omega arith in
+      let whole : length left ≡ length row + length rest = ap length q ∙ length-append row rest in
+      let l = all_left in
+      record {
+        here = split_lt i n (λ h. h) (λ h. let all : i ≡ n = omega arith in let past : i * n ≡ n * n = ap (λ (k : ℕ). k * n) all in absurd (omega arith));
+        is = sym (ap (λ (k : ℕ). take k (row ++ rest)) (sym long) ∙ take-append_seam row rest) ∙ ap (take n) (sym q ∙ e);
+        behind = sym (ap (λ (k : ℕ). drop k (row ++ rest)) (sym long) ∙ drop-append_seam row rest) ∙ ap (drop n) (sym q ∙ e)
+            ∙ drop-drop n (i * n) cells ∙ ap (λ (k : ℕ). drop k cells) after;
+      }
+
+  pub no_row : length left < n → i ≡ n
+  no_row h = split_lt i n (λ l. let f = mul-le-mul_right n l in let s = all_left in absurd (omega arith)) (λ l. omega arith)
 
 -- ---- the cells of a block
 
@@ -93,29 +119,3 @@ module _ (n : ℕ) (planes before area : List ℕ) (few : n ≤ 64) (size : leng
       ∙ sym (cell-grid n (λ i j. lane planes (i * 64 + j)) i r hi l))
       a
       ∙ ap (λ (k : ℕ). laid k (planes_matrix n planes) before) next
-
--- ---- arguments that serve
-
-pub served-square : (n cells planes : ℕ) → serves_cells n cells planes ≡ true → Square n cells planes
-served-square n cells planes e =
-    let a = both_true _ _ e in
-    let r = both_true (leb 1 n) (leb n 64) a.0 in
-    let b = both_true (eqb cells (n * n)) (eqb planes (8 * n)) a.1 in
-    record { few = leb-true n 64 r.1; size = eqb-true cells (n * n) b.0; whole = eqb-true planes (8 * n) b.1 }
-
-module _ (n : ℕ) (cells planes : List ℕ) where
-  pub taken_all : serves_cells n (length cells) (length planes) ≡ true → matrix_planes n cells ≡ taken n cells planes
-  unfolding taken
-  taken_all e = rw e
-
-  pub taken_none : serves_cells n (length cells) (length planes) ≡ false → planes ≡ taken n cells planes
-  unfolding taken
-  taken_none e = rw e
-
-  pub given_all : serves_cells n (length cells) (length planes) ≡ true → planes_matrix n planes ≡ given n planes cells
-  unfolding given
-  given_all e = rw e
-
-  pub given-none : serves_cells n (length cells) (length planes) ≡ false → cells ≡ given n planes cells
-  unfolding given
-  given-none e = rw e

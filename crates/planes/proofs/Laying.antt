@@ -1,28 +1,20 @@
 -- Eight words laid into an area, block by block.
-use Prim.Native.Nat.{ℕ, ◌+◌, ◌*◌, ◌-◌, ◌/◌, ◌<◌, ◌≤◌}
-use mathlib.Core.Path.{◌≡◌, sym, ap, ap₂, ◌∙◌}
+use Prim.Native.Nat.{ℕ, zero, suc, ◌+◌, ◌*◌, ◌-◌, ◌/◌, ◌<◌, ◌≤◌}
+use mathlib.Core.Path.{◌≡◌, refl, sym, ap, ap₂, ◌∙◌}
 use mathlib.Core.Bool.{Bool, true, false, cond}
 use mathlib.Core.List.{List, ◌++◌, append_assoc}
-use native.Mathlib.Numerals.{add-one}
 use native.Mathlib.Omega.{arith}
 use borrow.Author.Tests.{lt-ltb, le-ltb}
-use lib.ListN.{length, get_or, take, drop, set, replicate, get_or-append}
+use lib.ListN.{length, get_or, take, drop, replicate, length-drop, get_or-append}
 use borrow.Rule.Slice.PartMut.{put_mid}
-use lib.Seq.{ext_get_or, take_all, drop-drop, paste, paste-suc, length-paste, length_paste_head, length-take-le, get_or-append-add, get_or-take, get_or-drop}
+use lib.Seq.{ext_get_or, take_all, drop-drop, paste, length-paste, length_paste_head, length-take-le, get_or-append-add, get_or-take, get_or-drop}
 use Rattle.lists.proofs.Splits.{split_lt}
 use Rattle.lists.specs.Laid.{laid}
 use Rattle.lists.proofs.LaidLaws.{length-laid, get_or-laid_in, get_or-laid_past}
-use Rattle.lanes.proofs.Lists.{list_length, list_at}
+use Rattle.lanes.proofs.Lists.{list_length, list_at, list_same, list_of_words}
+use Rattle.std.specs.Simd.{first_chunks}
 use Rattle.planes.specs.Planes.{block_of}
 use Rattle.planes.specs.Calls.{has_block, loaded, stored}
-
--- ---- the loop that lays eight words from at on
-
-pub pasted : (d : List ℕ) (at : ℕ) (w words : List ℕ) (r : ℕ) → at + 8 ≤ length d → length w ≡ 8 → r < 8
-    → words ≡ paste d at w r → set words (at + r) (get_or w r 0) ≡ paste d at w (r + 1)
-pasted d at w words r h e b q =
-    ap (λ (l : List ℕ). set l (at + r) (get_or w r 0)) q
-    ∙ paste-suc d at w r 0 (omega arith) (omega arith) ∙ ap (paste d at w) (sym (add-one r))
 
 -- ---- what stands in the area after eight words are laid from at on
 
@@ -104,6 +96,15 @@ pub stored_there : (planes : List ℕ) (b : ℕ) (words : List ℕ) → 8 * b + 
 unfolding stored
 stored_there planes b words h = ap (λ (t : Bool). cond t (paste planes (8 * b) words 8) planes) (there (length planes) b h)
 
+-- block b, put behind the blocks before it
+pub block_put : (planes before area w : List ℕ) (b : ℕ) → 8 * b + 8 ≤ length planes → length before ≡ length planes → length area ≡ length planes
+    → w ≡ block_of planes b → area ≡ laid (8 * b) planes before → stored area b w ≡ laid (8 * (b + 1)) planes before
+block_put planes before area w b h same long e a = stored_there area b w (omega arith) ∙ block_laid planes before area w b h same e a
+
+-- eight words that are put where a part of the planes was lent
+pub block_lent : (planes w : List ℕ) (b count : ℕ) → b < length planes / 8 → length w ≡ 8 → count ≡ 8 → put_mid (8 * b) count planes w ≡ stored planes b w
+block_lent planes w b count h long e = put_back planes w (8 * b) count 8 e long ∙ sym (stored_there planes b w (omega arith))
+
 -- one that is not
 absent : (words b : ℕ) → words / 8 ≤ b → has_block words b ≡ false
 absent words b h = le-ltb b (words / 8) h
@@ -115,3 +116,33 @@ loaded_absent planes b h = ap (λ (t : Bool). cond t (block_of planes b) (replic
 pub stored_absent : (planes : List ℕ) (b : ℕ) (words : List ℕ) → length planes / 8 ≤ b → stored planes b words ≡ planes
 unfolding stored
 stored_absent planes b words h = ap (λ (t : Bool). cond t (paste planes (8 * b) words 8) planes) (absent (length planes) b h)
+
+-- ---- the chunks of eight words
+
+chunk_at : (k : ℕ) (xs d : List ℕ) (i : ℕ) → i < k → get_or (first_chunks 8 k xs) i d ≡ take 8 (drop (8 * i) xs)
+chunk_at zero xs d i h = absurd (omega arith)
+chunk_at (suc k) xs d zero h = refl
+chunk_at (suc k) xs d (suc i) h =
+    let next : 8 + 8 * i ≡ 8 * suc i = omega arith in
+    chunk_at k (drop 8 xs) d i (omega arith) ∙ ap (take 8) (drop-drop (8 * i) 8 xs ∙ ap (λ (n : ℕ). drop n xs) next)
+
+no_chunk : (k : ℕ) (xs d : List ℕ) (i : ℕ) → k ≤ i → get_or (first_chunks 8 k xs) i d ≡ d
+no_chunk zero xs d i h = refl
+no_chunk (suc k) xs d zero h = absurd (omega arith)
+no_chunk (suc k) xs d (suc i) h = no_chunk k (drop 8 xs) d i (omega arith)
+
+chunk_block : (planes : List ℕ) (b : ℕ) → 8 * b + 8 ≤ length planes → take 8 (drop (8 * b) planes) ≡ block_of planes b
+unfolding block_of
+chunk_block planes b h =
+    let chunk : List ℕ = take 8 (drop (8 * b) planes) in
+    let behind = length-drop (8 * b) planes in
+    sym (list_of_words 8 chunk (length-take-le 8 (drop (8 * b) planes) (omega arith)))
+    ∙ list_same 8 (λ r. get_or chunk r 0) (λ r. get_or planes (8 * b + r) 0)
+    (λ r l. get_or-take 8 (drop (8 * b) planes) r 0 l ∙ get_or-drop (8 * b) planes r 0)
+
+-- the chunk with the number b, or eight empty words
+pub chunk_loaded : (planes : List ℕ) (b : ℕ) → get_or (first_chunks 8 (length planes / 8) planes) b (replicate 8 0) ≡ loaded planes b
+chunk_loaded planes b =
+    split_lt b (length planes / 8)
+    (λ h. chunk_at (length planes / 8) planes (replicate 8 0) b h ∙ chunk_block planes b (omega arith) ∙ sym (loaded-there planes b (omega arith)))
+    (λ h. no_chunk (length planes / 8) planes (replicate 8 0) b h ∙ sym (loaded_absent planes b h))

@@ -4,7 +4,7 @@ ghost use Rattle.planes.specs.Planes.{matrix_planes, planes_matrix};
 ghost use Rattle.planes.specs.Calls.{serves_cells, taken, given};
 ghost use Rattle.planes.specs.Inner.{Square};
 
-use crate::words::{load, store};
+use crate::words::{block_at, put_block};
 use rows::{give_row, take_row};
 
 // Every row into its block.
@@ -12,12 +12,8 @@ fn take_rows(n: usize, cells: &[u8], planes: &mut [u64])
     requires { Square n (length cells.now) (length planes.old) }
     ensures { planes.new ≡ matrix_planes n cells.now }
 {
-    let mut i: usize = 0;
-    while i < n {
-        let from = i * n;
-        let end = from + n;
-        store(planes, i, take_row(&cells[from..end]));
-        i += 1;
+    for (i, row) in cells.chunks_exact(n).enumerate() {
+        put_block(planes, i, take_row(row));
     }
 }
 
@@ -26,12 +22,8 @@ fn give_rows(n: usize, planes: &[u64], cells: &mut [u8])
     requires { Square n (length cells.old) (length planes.now) }
     ensures { cells.new ≡ planes_matrix n planes.now }
 {
-    let mut i: usize = 0;
-    while i < n {
-        let from = i * n;
-        let end = from + n;
-        give_row(load(planes, i), &mut cells[from..end]);
-        i += 1;
+    for i in 0..n {
+        give_row(block_at(planes, i), &mut cells[i * n..i * n + n]);
     }
 }
 
@@ -39,19 +31,11 @@ fn give_rows(n: usize, planes: &[u64], cells: &mut [u8])
 fn serves(n: usize, cells: usize, planes: usize) -> bool
     ensures { result ≡ serves_cells n cells planes }
 {
-    if n < 1 {
-        return false;
-    }
-    if 64 < n {
-        return false;
-    }
-    if cells != n * n {
-        return false;
-    }
-    planes == 8 * n
+    (1..=64).contains(&n) && cells == n * n && planes == 8 * n
 }
 
 // The cells of n regions into planes.
+#[tactic(auto, unfolding(crate::specs::Calls::taken))]
 pub fn take(n: usize, cells: &[u8], planes: &mut [u64])
     ensures { planes.new ≡ taken n cells.now planes.old }
 {
@@ -61,6 +45,7 @@ pub fn take(n: usize, cells: &[u8], planes: &mut [u64])
 }
 
 // The cells of n regions from planes.
+#[tactic(auto, unfolding(crate::specs::Calls::given))]
 pub fn give(n: usize, planes: &[u64], cells: &mut [u8])
     ensures { cells.new ≡ given n planes.now cells.old }
 {

@@ -7,12 +7,12 @@ use Rattle.lists.specs.Laid.{laid}
 use Rattle.matrix.proofs.CellLaws.{length-grid}
 use Rattle.lists.proofs.LaidLaws.{laid_all}
 use Rattle.planes.specs.Planes.{planes_matrix}
+use Rattle.planes.proofs.Laying.{loaded-there}
 use Rattle.planes.proofs.Crossing.{row_fits, none-given, row-given}
-use Rattle.std.proofs.Common.{rules}
 use Rattle.planes.proofs.cells.give_rows.Goals as goal
 
 pub loop-i-init : goal.loop-i-init
-loop-i-init c = (search rules, search rules, none-given _ _ _)
+loop-i-init c = none-given _ _ _
 
 pub loop-i-preserved : goal.loop-i-preserved
 loop-i-preserved c =
@@ -21,13 +21,10 @@ loop-i-preserved c =
     let s = c.requires in
     let f = row_fits args.n loop.i (omega arith) s.few in
     let from = loop.i * args.n in
-    let part = mid_len from (from + args.n) loop.cells (omega (arith, f.row, s.size, loop.invariant.1)) in (
-      search rules,
-      search rules,
-      row-given args.n args.planes.now args.cells.now loop.cells s.few s.size loop.i (omega arith)
-          (from + args.n - from) _ _ c.give_row.new.cells (omega arith) c.load.ensures
-          (omega arith) c.give_row.ensures loop.invariant.2,
-    )
+    let part = mid_len from (from + args.n) loop.cells (omega arith) in
+    row-given args.n args.planes.now args.cells.now loop.cells s.few s.size loop.i (omega arith)
+    (from + args.n - from) _ _ c.give_row.new.cells (omega arith) (c.block_at.ensures ∙ loaded-there _ _ (omega arith))
+    (omega arith) c.give_row.ensures loop.invariant
 
 pub returns : goal.returns
 returns c =
@@ -35,5 +32,5 @@ returns c =
     let args = c.args in
     let s = c.requires in
     let all : loop.i ≡ args.n = omega arith in
-    loop.invariant.2 ∙ ap (λ (k : ℕ). laid (k * args.n) (planes_matrix args.n args.planes.now) args.cells.now) all
+    loop.invariant ∙ ap (λ (k : ℕ). laid (k * args.n) (planes_matrix args.n args.planes.now) args.cells.now) all
     ∙ laid_all (args.n * args.n) (planes_matrix args.n args.planes.now) args.cells.now (length-grid args.n _) s.size

@@ -1,14 +1,15 @@
--- `planes::cells::take_rows` meets its contract. The loop's invariant: the blocks of the rows before i are laid.
-use Prim.Native.Nat.{◌*◌, ◌-◌, ◌≤◌}
-use mathlib.Core.Path.{◌≡◌}
-use lib.ListN.{length}
+-- `planes::cells::take_rows` meets its contract. The loop's invariant: the blocks of the rows that are taken are laid, the other rows are left.
+use Rattle.std.proofs.Common.{◌≡◌, ◌*◌, ◌≤◌, drop}
+use Rattle.std.specs.Slice.Iter.{chunks_exact_rest, chunks_exact_size}
+use Rattle.std.specs.Iterator.Adapters.{enumerate_source, enumerate_count}
 use Rattle.lists.specs.Laid.{laid}
 use Rattle.planes.specs.Planes.{matrix_planes}
 use Rattle.planes.proofs.cells.take_rows.Given as goal
 
 abbrev pub invariant-loop-i : goal.invariant-loop-i
-invariant-loop-i l =
-    (l.i ≤ l.n) × (length l.planes ≡ length l.initial.planes) × (l.planes ≡ laid (8 * l.i) (matrix_planes l.n l.cells) l.initial.planes)
-
-abbrev pub decreases-loop-i : goal.decreases-loop-i
-decreases-loop-i l = l.n - l.i
+invariant-loop-i l = record {
+  within : enumerate_count l.i-iterator ≤ l.n;
+  size : chunks_exact_size (enumerate_source l.i-iterator) ≡ l.n;
+  rest : chunks_exact_rest (enumerate_source l.i-iterator) ≡ drop (enumerate_count l.i-iterator * l.n) l.cells;
+  so_far : l.planes ≡ laid (8 * enumerate_count l.i-iterator) (matrix_planes l.n l.cells) l.initial.planes;
+}
