@@ -28,10 +28,6 @@ use Rattle.planes.specs.Inner.{lanes_of}
 use Rattle.planes.proofs.Laying.{part_laid, put_back}
 use Rattle.planes.proofs.Blocks.{set_block, block_planes}
 
-pub both_true : (a b : Bool) → a && b ≡ true → (a ≡ true) × (b ≡ true)
-both_true true b e = (refl, e)
-both_true false b e = absurd (true≢false (sym e))
-
 -- ---- the cells of a row
 
 pub record RowFits (n i : ℕ) : Type 0 where

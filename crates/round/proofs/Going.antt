@@ -128,3 +128,15 @@ pub empty-least : (w : List ℕ) (members : ℕ) → members < 2 ^ 64 → member
 empty-least w members h e =
     lowest_least (18446744073709551615 - members) (λ x. eqb (set_at w x) empty) (omega arith)
     (λ k l. has_other members k h l ∙ ap not (ap (λ (x : ℕ). has x k) e ∙ has_members w k) ∙ not_not (eqb (set_at w k) empty))
+
+-- where every lane has a member, none is the first empty one; otherwise it is the lowest of those that have none
+pub empty-none : (w : List ℕ) (members : ℕ) → members < 2 ^ 64 → members ≡ lanes_with_member w → 18446744073709551615 - members ≡ 0
+    → 64 ≤ least 64 (λ x. eqb (set_at w x) empty)
+empty-none w members h e z =
+    let place : 64 ≡ least 64 (λ x. eqb (set_at w x) empty) = sym (ap lowest_of z ∙ none_lowest) ∙ empty-least w members h e in omega arith
+
+pub empty-some : (w : List ℕ) (members k : ℕ) → members < 2 ^ 64 → members ≡ lanes_with_member w → (18446744073709551615 - members ≡ 0 → ⊥)
+    → k ≡ lowest_of (18446744073709551615 - members) → (k ≡ least 64 (λ x. eqb (set_at w x) empty)) × (k < 64)
+empty-some w members k h e n q =
+    let f = lowest_facts (18446744073709551615 - members) (omega arith) (split_eq (18446744073709551615 - members) 0 (λ z. absurd (n z)) (λ s. omega arith)) in
+    (q ∙ empty-least w members h e, subst (λ (x : ℕ). x < 64) (sym q) f.below)

@@ -1,21 +1,25 @@
 -- The set of a lane, of the words that the functions on blocks make; the lanes with a member, with all of them, and those that differ.
-use Prim.Native.Nat.{ℕ, zero, suc, ◌+◌, ◌*◌, ◌<◌, ◌≤◌}
+use Prim.Native.Nat.{ℕ, zero, suc, ◌+◌, ◌*◌, ◌^◌, ◌<◌, ◌≤◌}
 use mathlib.Core.Path.{◌≡◌, refl, sym, ap, ap₂, ◌∙◌, subst}
 use mathlib.Core.Bool.{Bool, true, false, cond, not, ◌&&◌, beq, and-true}
 use mathlib.Core.List.{List}
 use native.Mathlib.Nat.{lt_of_le_of_lt, le_refl, le_trans, le-suc}
-use lib.Bits.{bit_xor, and_le_l}
+use lib.Bits.{bit_and, bit_or, bit_xor, and_le_l}
 use lib.Dec.{T, eqb, eqb→eq, eqb_refl, T_not, not_T, lit<}
 use lib.ListN.{length, get_or}
+use Rattle.std.specs.List.{fold}
+use Rattle.lists.specs.Tabled.{tabled}
+use Rattle.lists.proofs.Splits.{split_lt}
 use Rattle.relation.specs.Sets.{has, empty, universal, intersect, union_of, over}
 use Rattle.relation.specs.Composition.{table, compose}
 use Rattle.relation.proofs.Tests.{same, from_both, all, all_at}
-use Rattle.relation.proofs.Member.{has-intersect, ext_byte, some_member, empty_has_none}
-use Rattle.lanes.specs.Lists.{some}
+use Rattle.relation.proofs.Member.{ext, has-intersect, ext_byte, some_member, empty_has_none}
+use Rattle.lanes.specs.Lists.{list_of, some}
 use Rattle.lanes.specs.Words.{set_at}
-use Rattle.lanes.proofs.Lists.{list_at, list_length}
+use Rattle.lanes.proofs.Lists.{list_at, list_length, list_of_words}
 use Rattle.lanes.proofs.Unions.{some_same, some-place, place-some, has_union, has_cond}
 use Rattle.lanes.proofs.Sets.{has-set, set-byte, set_is, has-over, has_wired}
+use Rattle.lanes.proofs.Shifts.{has_beyond}
 use Rattle.lanes.proofs.Digits.{has_xor, all_ones}
 use Rattle.round.specs.Inner.{lanes_with_member, lanes_with_all, lanes_that_differ, spread, narrowed, Wired}
 
@@ -63,6 +67,36 @@ set-spread w k x h =
     ∙ sym (has-set w k r l))
 
 -- ---- lanes with a member, with all members
+
+-- eight words, taken together one after the other
+pub members_fold : (w : List ℕ) → length w ≡ 8 → fold bit_or 0 w ≡ lanes_with_member w
+unfolding tabled
+members_fold w long = subst (λ (v : List ℕ). fold bit_or 0 v ≡ lanes_with_member w) (list_of_words 8 w long) refl
+
+pub all_fold : (w : List ℕ) → length w ≡ 8 → get_or w 0 0 < 2 ^ 64 → fold (λ all word. bit_and word all) 18446744073709551615 w ≡ lanes_with_all w
+unfolding tabled
+all_fold w long small =
+    subst (λ (v : List ℕ). fold (λ all word. bit_and word all) 18446744073709551615 v ≡ lanes_with_all w) (list_of_words 8 w long)
+    (ap (λ (x : ℕ). from_first x) (within_ones (get_or w 0 0) small))
+  where
+    from_first : ℕ → ℕ
+    from_first x =
+        bit_and (get_or w 7 0) (bit_and (get_or w 6 0) (bit_and (get_or w 5 0) (bit_and (get_or w 4 0)
+        (bit_and (get_or w 3 0) (bit_and (get_or w 2 0) (bit_and (get_or w 1 0) x))))))
+
+    within_ones : (x : ℕ) → x < 2 ^ 64 → bit_and x 18446744073709551615 ≡ x
+    within_ones x h =
+        ext (bit_and x 18446744073709551615) x (λ k. has-intersect x 18446744073709551615 k ∙ go k)
+      where
+        go : (k : ℕ) → has x k && has 18446744073709551615 k ≡ has x k
+        go k = split_lt k 64
+            (λ l. ap (λ (b : Bool). has x k && b) (all_ones k l) ∙ and-true (has x k))
+            (λ l. ap (λ (b : Bool). b && has 18446744073709551615 k) (has_beyond x 64 k h l) ∙ sym (has_beyond x 64 k h l))
+
+-- the words that differ, taken together
+pub differ_members : (a b : List ℕ) → lanes_with_member (list_of 8 (λ r. bit_xor (get_or a r 0) (get_or b r 0))) ≡ lanes_that_differ a b
+unfolding tabled
+differ_members a b = refl
 
 -- the set of lane x is not empty
 pub has_members : (w : List ℕ) (x : ℕ) → has (lanes_with_member w) x ≡ not (eqb (set_at w x) empty)

@@ -31,12 +31,14 @@ use Rattle.lanes.proofs.Sets.{has_mask, mask_below}
 use Rattle.lanes.proofs.Shifts.{has_beyond}
 use Rattle.lanes.proofs.Digits.{all_ones}
 use Rattle.planes.specs.Planes.{lane, sets_of, lane_cell, matrix_planes, planes_matrix}
+use Rattle.std.proofs.Common.{Result, Ok, Err}
+use Rattle.round.specs.declared.rounds.Emptied.{Emptied}
 use Rattle.round.specs.Round.{empty_lane, through_live, known, new_set, round_planes, changed_columns}
 use Rattle.round.specs.Calls.{came_of, round_leaves}
 use Rattle.planes.proofs.Blocks.{sets_at, length-sets, lane_planes, length_planes, planes_same}
 use Rattle.round.proofs.LivePlaces.{live_none, live_more, live_skip, live_same}
 use Rattle.round.proofs.Rounding.{known_one}
-use Rattle.round.proofs.Turning.{laid_past}
+use Rattle.round.proofs.Turning.{emptied_at, laid_past}
 use Rattle.round.proofs.Live.{ColumnKept, LiveRounds, visited-cell, live_next, kept_unchanged}
 
 -- ---- the sets of a matrix' planes
@@ -285,22 +287,29 @@ module _ (n : ℕ) (new old : List ℕ) (few : n ≤ 64) (N : Bytes n new) (O : 
 
 -- ---- what a round on planes comes to
 
+-- there is the first empty cell
+pub record FirstEmpty (n : ℕ) (m : List ℕ) (at : Emptied) : Type 0 where
+  pub row_lt : at.row < n
+  pub column_lt : at.column < n
+  pub first-empty : at.row * n + at.column ≡ first_empty (n * n) m
+
+-- no cell is empty, the new area holds the round, the columns that changed are live, and none means that nothing changed
+pub record NoneEmpty (n live : ℕ) (m : List ℕ) (columns : ℕ) : Type 0 where
+  pub none-empty : n * n ≤ first_empty (n * n) (round n m)
+  pub left : (new : List ℕ) → length new ≡ 8 * n → round_leaves n live (matrix_planes n m) new ≡ matrix_planes n (round n m)
+  pub next : LiveRounds n (round n m) (has columns)
+  pub unchanged : columns ≡ 0 → n * n ≤ first_change (n * n) (round n m) m
+  pub changed : (columns ≡ 0 → ⊥) → first_change (n * n) (round n m) m < n * n
+
+-- what the answer says of the round
+abbrev pub Says : ℕ → ℕ → List ℕ → Result ℕ Emptied → Type 0
+Says n live m (Ok columns) = NoneEmpty n live m columns
+Says n live m (Err at) = FirstEmpty n (round n m) at
+
 pub record SameRound (n live : ℕ) (m : List ℕ) : Type 0 where
   -- the planes that it makes
   pub planes : round_planes n live (matrix_planes n m) ≡ matrix_planes n (round n m)
-  -- a row below n: there, in that column, is the first empty cell
-  pub column_lt : (came_of n live (matrix_planes n m)).row < n → (came_of n live (matrix_planes n m)).column < n
-  pub first-empty : (came_of n live (matrix_planes n m)).row < n
-      → (came_of n live (matrix_planes n m)).row * n + (came_of n live (matrix_planes n m)).column ≡ first_empty (n * n) (round n m)
-  -- a row from n on: no cell is empty, the new area holds the round, the columns that changed are live, and none means that nothing changed
-  pub none-empty : n ≤ (came_of n live (matrix_planes n m)).row → n * n ≤ first_empty (n * n) (round n m)
-  pub left : n ≤ (came_of n live (matrix_planes n m)).row → (new : List ℕ) → length new ≡ 8 * n
-      → round_leaves n live (matrix_planes n m) new ≡ matrix_planes n (round n m)
-  pub next : n ≤ (came_of n live (matrix_planes n m)).row → LiveRounds n (round n m) (has (came_of n live (matrix_planes n m)).changed)
-  pub unchanged : n ≤ (came_of n live (matrix_planes n m)).row → (came_of n live (matrix_planes n m)).changed ≡ 0
-      → n * n ≤ first_change (n * n) (round n m) m
-  pub changed : n ≤ (came_of n live (matrix_planes n m)).row → ((came_of n live (matrix_planes n m)).changed ≡ 0 → ⊥)
-      → first_change (n * n) (round n m) m < n * n
+  pub says : Says n live m (came_of n live (matrix_planes n m))
 
 module _ (n : ℕ) (m : List ℕ) (live : ℕ) (few : n ≤ 64) (L : LiveRounds n m (has live)) where
   abbrev new : List ℕ
@@ -309,14 +318,6 @@ module _ (n : ℕ) (m : List ℕ) (live : ℕ) (few : n ≤ 64) (L : LiveRounds 
   abbrev place : ℕ
   place = empty_lane new
 
-  came-row : (came_of n live (matrix_planes n m)).row ≡ place / 64
-  unfolding came_of
-  came-row = ap (λ (p : List ℕ). empty_lane (sets_of p) / 64) (same_planes n m live few L)
-
-  came-column : (came_of n live (matrix_planes n m)).column ≡ place % 64
-  unfolding came_of
-  came-column = ap (λ (p : List ℕ). empty_lane (sets_of p) % 64) (same_planes n m live few L)
-
   within : place ≤ 64 * n
   unfolding first_empty
   within =
@@ -324,42 +325,52 @@ module _ (n : ℕ) (m : List ℕ) (live : ℕ) (few : n ≤ 64) (L : LiveRounds 
       let least-within = (least-is (length new) (λ p. eqb (get_or new p 0) 0)).within in
       omega arith
 
-  came_changed : 64 * n ≤ place → (came_of n live (matrix_planes n m)).changed ≡ changed_columns 64 new (sets_of (matrix_planes n m))
-  unfolding came_of
-  came_changed h =
-      let size = sets-length n (round n m) few (round-bytes n m) in
-      ap (λ (p : List ℕ). cond (ltb (empty_lane (sets_of p)) (length (sets_of p))) 0 (changed_columns 64 (sets_of p) (sets_of (matrix_planes n m))))
+  columns_now : ℕ
+  columns_now = changed_columns 64 new (sets_of (matrix_planes n m))
+
+  came_is : came_of n live (matrix_planes n m) ≡ cond (ltb place (length new)) (emptied_at place) (Ok columns_now)
+  unfolding came_of columns_now
+  came_is =
+      ap (λ (p : List ℕ). cond (ltb (empty_lane (sets_of p)) (length (sets_of p))) (emptied_at (empty_lane (sets_of p)))
+      (Ok (changed_columns 64 (sets_of p) (sets_of (matrix_planes n m)))))
       (same_planes n m live few L)
-      ∙ ap (λ (b : Bool). cond b 0 (changed_columns 64 new (sets_of (matrix_planes n m)))) (le-ltb place (length new) (omega arith))
 
-  past_rows : n ≤ (came_of n live (matrix_planes n m)).row → 64 * n ≤ place
-  past_rows h = let e = came-row in omega arith
+  emptied : place < 64 * n → Says n live m (came_of n live (matrix_planes n m))
+  emptied h =
+      let size = sets-length n (round n m) few (round-bytes n m) in
+      let e = empty-lane n (round n m) few (round-bytes n m) h in
+      subst (Says n live m)
+      (sym (came_is ∙ ap (λ (b : Bool). cond b (emptied_at place) (Ok columns_now)) (lt-ltb place (length new) (omega arith))))
+      (record { row_lt = omega arith; column_lt = e.0; first-empty = e.1 })
 
-  pub same-round : SameRound n live m
-  unfolding round_leaves
-  same-round =
+  full : 64 * n ≤ place → Says n live m (came_of n live (matrix_planes n m))
+  unfolding round_leaves columns_now
+  full h =
       let R = round-bytes n m in
       let O = L.plain.bytes in
-      record {
-        planes = same_planes n m live few L;
-        column_lt = λ h. let r = came-row in let e = empty-lane n (round n m) few R (omega arith) in
-            subst (λ (x : ℕ). x < n) (sym came-column) e.0;
-        first-empty = λ h. let r = came-row in
-            ap₂ (λ (a b : ℕ). a * n + b) came-row came-column ∙ (empty-lane n (round n m) few R (omega arith)).1;
-        none-empty = λ h. no_empty_lane n (round n m) few R (past_rows h);
-        left = λ h area l.
+      let size = sets-length n (round n m) few R in
+      subst (Says n live m)
+      (sym (came_is ∙ ap (λ (b : Bool). cond b (emptied_at place) (Ok columns_now)) (le-ltb place (length new) (omega arith))))
+      (record {
+        none-empty = no_empty_lane n (round n m) few R h;
+        left = λ area l.
             let long = length_planes n (lane_cell 64 n (round n m)) in
-            let p = past_rows h in
             ap (λ (p : List ℕ). laid (8 * (empty_lane (sets_of p) / 64 + 1)) p area) (same_planes n m live few L)
             ∙ laid_past (8 * (place / 64 + 1)) (matrix_planes n (round n m)) area (omega arith) (omega arith);
-        next = λ h. live_next n m (has live) L
-            (record { filled = λ i j hi hj e. no_empty n (round n m) (no_empty_lane n (round n m) few R (past_rows h)) i j hi hj e })
-            (has (came_of n live (matrix_planes n m)).changed)
-            (λ k l e. unchanged_column n (round n m) m few R O k l (ap (λ (x : ℕ). has x k) (sym (came_changed (past_rows h))) ∙ e));
-        unchanged = λ h e. no_columns n (round n m) m few R O (sym (came_changed (past_rows h)) ∙ e);
-        changed = λ h e. split_lt (first_change (n * n) (round n m) m) (n * n) (λ l. l)
-            (λ l. absurd (e (came_changed (past_rows h) ∙ nothing_changed n (round n m) m few R O l)));
-      }
+        next = live_next n m (has live) L
+            (record { filled = λ i j hi hj e. no_empty n (round n m) (no_empty_lane n (round n m) few R h) i j hi hj e })
+            (has columns_now)
+            (λ k l e. unchanged_column n (round n m) m few R O k l e);
+        unchanged = no_columns n (round n m) m few R O;
+        changed = λ e. split_lt (first_change (n * n) (round n m) m) (n * n) (λ l. l)
+            (λ l. absurd (e (nothing_changed n (round n m) m few R O l)));
+      })
+
+  pub same-round : SameRound n live m
+  same-round = record {
+    planes = same_planes n m live few L;
+    says = split_lt place (64 * n) emptied full;
+  }
 
 -- at the start every region is live
 pub all_live : (n : ℕ) (m : List ℕ) → n ≤ 64 → Plain n m → LiveRounds n m (has 18446744073709551615)

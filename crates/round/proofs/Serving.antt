@@ -13,14 +13,14 @@ use Rattle.relation.proofs.Member.{has-intersect}
 use Rattle.lanes.proofs.Shifts.{has_shr, has_beyond}
 use Rattle.lanes.proofs.Digits.{all_ones}
 use Rattle.matrix.specs.Cells.{row, column}
-use Rattle.round.specs.declared.rounds.Came.{Came}
+use Rattle.std.proofs.Common.{Result, Err}
+use Rattle.round.specs.declared.rounds.Emptied.{Emptied}
 use Rattle.planes.specs.Planes.{sets_of}
 use Rattle.round.specs.Round.{known, new_set, round_planes}
 use Rattle.planes.specs.Planes.{block_of}
 use Rattle.round.specs.Onward.{onward_of}
 use Rattle.round.specs.Calls.{serves_round, below, came_of, round_leaves, Rounds}
 use Rattle.round.specs.Inner.{Room, Ready, Wiring, Made, part_of, Wired}
-use Rattle.planes.proofs.Crossing.{both_true}
 use Rattle.planes.proofs.Blocks.{planes_same}
 use Rattle.round.proofs.LivePlaces.{live_same}
 use Rattle.round.proofs.Rounding.{onward_length, part_wired}
@@ -45,6 +45,10 @@ ready_words {n} {live} {new} old onward area small R e =
     )
 
 -- ---- arguments that serve
+
+both_true : (a b : Bool) → a && b ≡ true → (a ≡ true) × (b ≡ true)
+both_true true b e = (refl, e)
+both_true false b e = absurd (true≢false (sym e))
 
 pub record Served (n old new onward : ℕ) : Type 0 where
   pub low : 1 ≤ n
@@ -108,7 +112,7 @@ served_ready {n} {old} {new} {onward} live low e S =
 -- ---- the promise
 
 module _ (n live : ℕ) (old new onward : List ℕ) where
-  pub rounds-made : (low : ℕ) (new' onward' : List ℕ) (answer : Came) → serves_round n (length old) (length new) (length onward) ≡ true
+  pub rounds-made : (low : ℕ) (new' onward' : List ℕ) (answer : Result ℕ Emptied) → serves_round n (length old) (length new) (length onward) ≡ true
       → low ≡ below n live → Made n low old new onward new' onward' answer → Rounds n live old new onward new' onward' answer
   rounds-made low new' onward' answer e q made =
       let M : Made n (below n live) old new onward new' onward' answer = subst (λ (l : ℕ). Made n l old new onward new' onward' answer) q made in
@@ -123,7 +127,7 @@ module _ (n live : ℕ) (old new onward : List ℕ) where
       taken x y = ap (λ (b : Bool). cond b x y) e
 
   pub rounds_not_made : serves_round n (length old) (length new) (length onward) ≡ false
-      → Rounds n live old new onward new onward (record { row = 0; column = 0; changed = 0 })
+      → Rounds n live old new onward new onward (Err (record { row = 0; column = 0 }))
   rounds_not_made e = record { came = sym (left _ _); in_new = sym (left _ new); in_onward = sym (left _ onward) }
     where
       left : {A : Type 0} (x y : A) → cond (serves_round n (length old) (length new) (length onward)) x y ≡ y

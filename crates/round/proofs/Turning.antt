@@ -11,7 +11,7 @@ use borrow.Author.Tests.{lt-ltb, le-ltb}
 use lib.Bits.{bit_or, or_lt}
 use lib.Dec.{eqb, ltb}
 use lib.ListN.{length, get_or, drop_of_length-le}
-use lib.Seq.{paste, take_all}
+use lib.Seq.{take_all}
 use Rattle.lists.specs.Least.{least}
 use Rattle.lists.proofs.Splits.{split_lt}
 use Rattle.lists.proofs.LeastLaws.{least-is, least-here, least_gone}
@@ -25,13 +25,15 @@ use Rattle.lanes.specs.Words.{set_at}
 use Rattle.lanes.proofs.Unions.{empty-has}
 use Rattle.lanes.proofs.Sets.{has_mask, mask_below}
 use Rattle.lanes.proofs.Shifts.{has_beyond}
-use Rattle.round.specs.declared.rounds.Came.{Came}
+use Rattle.std.proofs.Common.{Result, Ok, Err}
+use Rattle.round.specs.declared.rounds.Emptied.{Emptied}
 use Rattle.planes.specs.Planes.{sets_of}
 use Rattle.round.specs.Round.{empty_lane, new_set, round_planes, changed_columns}
 use Rattle.planes.specs.Planes.{block_of}
 use Rattle.round.specs.Calls.{came_of, round_leaves}
 use Rattle.round.specs.Inner.{lanes_that_differ, block_through, Chosen, Room, Ready, Wiring, Blocks}
-use Rattle.planes.proofs.Laying.{block_laid}
+use Rattle.planes.specs.Calls.{stored}
+use Rattle.planes.proofs.Laying.{block_put}
 use Rattle.round.proofs.Lanes.{has_differing}
 use Rattle.planes.proofs.Blocks.{set_block, sets_at, length-sets, length_planes, block_planes}
 use Rattle.round.proofs.Rounding.{chosen_live, cell_set, block_made}
@@ -68,9 +70,9 @@ pub laid_past : (p : ℕ) (filled area : List ℕ) → length filled ≤ p → l
 unfolding laid
 laid_past p filled area f a = ap₂ ◌++◌ (take_all p filled f) (drop_of_length-le area a) ∙ append-nil filled
 
-came_same : (a b c d e f : ℕ) → a ≡ d → b ≡ e → c ≡ f
-    → ◌≡◌ {A = Came} (record { row = a; column = b; changed = c }) (record { row = d; column = e; changed = f })
-came_same a b c d e f p q r = rw (p, q, r)
+-- the answer where lane p is the first with an empty set
+abbrev pub emptied_at : ℕ → Result ℕ Emptied
+emptied_at p = Err (record { row = p / 64; column = p % 64 })
 
 module _ (n live : ℕ) (old before : List ℕ) (few : n ≤ 64) (whole : length old ≡ 8 * n) (same : length before ≡ 8 * n) where
   made-length : length (round_planes n live old) ≡ 8 * n
@@ -96,10 +98,10 @@ module _ (n live : ℕ) (old before : List ℕ) (few : n ≤ 64) (whole : length
         let place : 64 * b + x ≡ b * 64 + x = omega arith in
         at_place x h ∙ ap (λ (p : ℕ). get_or (new_sets n live old) p 0) place
 
-    next : paste new (8 * b) all 8 ≡ laid (8 * (b + 1)) (round_planes n live old) before
+    next : stored new b all ≡ laid (8 * (b + 1)) (round_planes n live old) before
     next =
         let m = made-length in
-        block_laid (round_planes n live old) before new all b (omega arith) (omega arith) made T.so_far
+        block_put (round_planes n live old) before new all b (omega arith) (omega arith) (omega (arith, T.long)) made T.so_far
 
     -- no set before lane x of the block is empty
     none_before : (x : ℕ) → x ≤ 64 → ((y : ℕ) → y < x → eqb (set_at all y) 0 ≡ false)
@@ -112,10 +114,10 @@ module _ (n live : ℕ) (old before : List ℕ) (few : n ≤ 64) (whole : length
         ∙ ap (λ (s : ℕ). eqb s 0) (sym (at_place (p - 64 * b) (omega arith))) ∙ f (p - 64 * b) (omega arith))
 
     -- the end at the first empty set
-    pub turning_stops : (stored : List ℕ) (x : ℕ) → stored ≡ paste new (8 * b) all 8 → x < 64 → x ≡ least 64 (λ y. eqb (set_at all y) 0)
-        → Blocks n live old before stored (record { row = b; column = x; changed = 0 })
+    pub turning_stops : (x : ℕ) → x < 64 → x ≡ least 64 (λ y. eqb (set_at all y) 0)
+        → Blocks n live old before (stored new b all) (Err (record { row = b; column = x }))
     unfolding came_of round_leaves first_empty
-    turning_stops stored x q hx e =
+    turning_stops x hx e =
         let test : ℕ → Bool = λ y. eqb (set_at all y) 0 in
         let L = least-is 64 test in
         let size = new_length in
@@ -126,28 +128,31 @@ module _ (n live : ℕ) (old before : List ℕ) (few : n ≤ 64) (whole : length
         (ap (λ (s : ℕ). eqb s 0) (sym (at_place x hx)) ∙ ap test e ∙ L.found (subst (λ (z : ℕ). z < 64) e hx)) in
         let at : (64 * b + x) / 64 ≡ b = omega arith in
         let in_row : (64 * b + x) % 64 ≡ x = omega arith in
+        let columns : Result ℕ Emptied = Ok (changed_columns 64 (new_sets n live old) (sets_of old)) in
         record {
-          came = came_same b x 0 _ _ _ (sym at ∙ ap (λ (p : ℕ). p / 64) place) (sym in_row ∙ ap (λ (p : ℕ). p % 64) place)
-              (ap (λ (t : Bool). cond t 0 (changed_columns 64 (new_sets n live old) (sets_of old)))
-              (sym (lt-ltb (64 * b + x) (length (new_sets n live old)) inside))
-              ∙ ap (λ (p : ℕ). cond (ltb p (length (new_sets n live old))) 0 (changed_columns 64 (new_sets n live old) (sets_of old))) place);
-          in_new = q ∙ next ∙ ap (λ (p : ℕ). laid (8 * (p + 1)) (round_planes n live old) before) (sym at ∙ ap (λ (p : ℕ). p / 64) place);
+          came = ap₂ (λ (i j : ℕ). the_error i j) (sym at) (sym in_row)
+              ∙ ap (λ (t : Bool). cond t (emptied_at (64 * b + x)) columns) (sym (lt-ltb (64 * b + x) (length (new_sets n live old)) inside))
+              ∙ ap (λ (p : ℕ). cond (ltb p (length (new_sets n live old))) (emptied_at p) columns) place;
+          in_new = next ∙ ap (λ (p : ℕ). laid (8 * (p + 1)) (round_planes n live old) before) (sym at ∙ ap (λ (p : ℕ). p / 64) place);
         }
+      where
+        the_error : ℕ → ℕ → Result ℕ Emptied
+        the_error i j = Err (record { row = i; column = j })
 
     -- a block without one
-    pub turning_goes : (stored : List ℕ) (x difference : ℕ) → stored ≡ paste new (8 * b) all 8 → 64 ≤ x → x ≡ least 64 (λ y. eqb (set_at all y) 0) → difference < 2 ^ 64
+    pub turning_goes : (difference : ℕ) → 64 ≤ least 64 (λ y. eqb (set_at all y) 0) → difference < 2 ^ 64
         → difference ≡ lanes_that_differ all (block_of old b)
-        → Turning n live old before stored (bit_or changed difference) (b + 1)
+        → Turning n live old before (stored new b all) (bit_or changed difference) (b + 1)
     unfolding some
-    turning_goes stored x difference q hx e hd d =
+    turning_goes difference hx hd d =
         let L = least-is 64 (λ y. eqb (set_at all y) 0) in
         let m = made-length in
         let l = length-laid (8 * (b + 1)) (round_planes n live old) before (omega arith) (omega arith) in
         let shift : 64 * (b + 1) ≡ 64 * b + 64 = omega arith in
         record {
           within = omega arith;
-          long = ap length (q ∙ next) ∙ l;
-          so_far = q ∙ next;
+          long = ap length next ∙ l;
+          so_far = next;
           none = λ p h. none_before 64 (le_refl 64) (λ y u. L.before y (omega arith)) p (omega arith);
           bits = λ k h.
               has-unite changed difference k
@@ -160,7 +165,7 @@ module _ (n live : ℕ) (old before : List ℕ) (few : n ≤ 64) (whole : length
 
   -- the end past the last block
   pub turning_ends : (new : List ℕ) (changed b : ℕ) → n ≤ b → Turning n live old before new changed b
-      → Blocks n live old before new (record { row = n; column = 0; changed = changed })
+      → Blocks n live old before new (Ok changed)
   unfolding came_of round_leaves first_empty changed_columns
   turning_ends new changed b h T =
       let all : b ≡ n = omega (arith, T.within) in
@@ -171,22 +176,23 @@ module _ (n live : ℕ) (old before : List ℕ) (few : n ≤ 64) (whole : length
       least_gone (length (new_sets n live old)) (λ p. eqb (get_or (new_sets n live old) p 0) 0) (64 * n) (sym size)
       (λ k l. T.none k (omega arith)) in
       let at : (64 * n) / 64 ≡ n = omega arith in
-      let in_row : (64 * n) % 64 ≡ 0 = omega arith in
       let rows : length (sets_of old) / 64 ≡ n = omega arith in
       record {
-        came = came_same n 0 changed _ _ _ (sym at ∙ ap (λ (p : ℕ). p / 64) place) (sym in_row ∙ ap (λ (p : ℕ). p % 64) place)
-            (columns rows all
-            ∙ ap (λ (t : Bool). cond t 0 (changed_columns 64 (new_sets n live old) (sets_of old)))
+        came = ap (λ (c : ℕ). columns c) (all_columns rows all)
+            ∙ ap (λ (t : Bool). cond t (emptied_at (64 * n)) (columns (changed_columns 64 (new_sets n live old) (sets_of old))))
             (sym (le-ltb (64 * n) (length (new_sets n live old)) (omega arith)))
-            ∙ ap (λ (p : ℕ). cond (ltb p (length (new_sets n live old))) 0 (changed_columns 64 (new_sets n live old) (sets_of old))) place);
+            ∙ ap (λ (p : ℕ). cond (ltb p (length (new_sets n live old))) (emptied_at p) (columns (changed_columns 64 (new_sets n live old) (sets_of old)))) place;
         in_new =
             T.so_far ∙ ap (λ (c : ℕ). laid (8 * c) (round_planes n live old) before) all
             ∙ laid_all (8 * n) (round_planes n live old) before m same
             ∙ sym (laid_past (8 * (empty_lane (new_sets n live old) / 64 + 1)) (round_planes n live old) before (omega (arith, sym at ∙ ap (λ (p : ℕ). p / 64) place)) (omega (arith, sym at ∙ ap (λ (p : ℕ). p / 64) place)));
       }
     where
-      columns : length (sets_of old) / 64 ≡ n → b ≡ n → changed ≡ changed_columns 64 (new_sets n live old) (sets_of old)
-      columns rows all =
+      columns : ℕ → Result ℕ Emptied
+      columns c = Ok c
+
+      all_columns : length (sets_of old) / 64 ≡ n → b ≡ n → changed ≡ changed_columns 64 (new_sets n live old) (sets_of old)
+      all_columns rows all =
           ext changed (mask_of 64 (λ k. some (length (sets_of old) / 64) (differs n live old k))) (λ k. go k (dec_lt k 64))
         where
           go : (k : ℕ) → Dec (k < 64)

@@ -1,16 +1,17 @@
 -- The 64 words that each relation gives with the sets of a row, laid block by block.
-use Prim.Native.Nat.{ℕ, suc, ◌+◌, ◌*◌, ◌/◌, ◌%◌, ◌<◌}
+use Prim.Native.Nat.{ℕ, ◌+◌, ◌*◌, ◌/◌, ◌%◌, ◌<◌}
 use mathlib.Core.Path.{◌≡◌, sym, ap, ap₂, ◌∙◌, subst}
-use mathlib.Core.Logic.{⊎_elim}
 use mathlib.Core.List.{List}
-use native.Mathlib.Nat.{not-suc-le-zero, le_of_suc-le-suc, eq-or-lt_of_le}
+use native.Mathlib.Nat.{not-suc-le-zero}
 use native.Mathlib.Omega.{arith}
 use lib.ListN.{length, get_or}
 use lib.Seq.{ext_get_or, paste, length-paste}
+use Rattle.lists.proofs.Splits.{split_lt}
 use Rattle.lanes.specs.Words.{wired}
 use Rattle.lanes.proofs.Lists.{list_length, list_at}
 use Rattle.lanes.proofs.Wiring.{wired-length}
-use Rattle.planes.proofs.Laying.{laid-before, laid_in}
+use Rattle.planes.specs.Calls.{stored}
+use Rattle.planes.proofs.Laying.{laid-before, laid_in, stored_there}
 use Rattle.round.specs.Onward.{wired_all}
 use Rattle.round.specs.Inner.{Wired}
 
@@ -19,19 +20,17 @@ use Rattle.round.specs.Inner.{Wired}
 pub wired-start : (b l : List ℕ) → length l ≡ 64 → Wired b l 0
 wired-start b l h = record { long = h; word = λ p r l k. absurd (not-suc-le-zero l) }
 
-pub wired_more : (b l w next : List ℕ) (p : ℕ) → p < 8 → Wired b l p → w ≡ wired p b → next ≡ paste l (8 * p) w 8 → Wired b next (suc p)
-wired_more b l w next p h d e q =
+pub wired_more : (b l w : List ℕ) (p : ℕ) → p < 8 → Wired b l p → w ≡ wired p b → Wired b (stored l p w) (p + 1)
+wired_more b l w p h d e =
     let long = d.long in
     let eight : length w ≡ 8 = ap length e ∙ wired-length p b in
-    subst (λ (x : List ℕ). Wired b x (suc p)) (sym q) (record {
+    rw (stored_there l p w (omega arith)) (record {
       long = length-paste l (8 * p) w 8 (omega arith) (omega arith) ∙ long;
-      word = λ s r m k. ⊎_elim
-          (λ o. ap (λ (x : ℕ). get_or (paste l (8 * p) w 8) (8 * x + r) 0) o
-          ∙ laid_in l (8 * p) w 8 (omega arith) eight r k
-          ∙ ap (λ (x : List ℕ). get_or x r 0) e
-          ∙ ap (λ (x : ℕ). get_or (wired x b) r 0) (sym o))
+      word = λ s r m k. split_lt s p
           (λ o. laid-before l (8 * p) w 8 (omega arith) eight (8 * s + r) (omega arith) ∙ d.word s r o k)
-          (eq-or-lt_of_le (le_of_suc-le-suc m));
+          (λ o. let same : p ≡ s = omega arith in
+          subst (λ (x : ℕ). get_or (paste l (8 * p) w 8) (8 * x + r) 0 ≡ get_or (wired x b) r 0) same
+          (laid_in l (8 * p) w 8 (omega arith) eight r k ∙ ap (λ (x : List ℕ). get_or x r 0) e));
     })
 
 -- all eight relations' words

@@ -1,11 +1,11 @@
 -- What only inner functions' contracts cite: all lanes of a block at once, the words that a row is composed with, and what a round works on.
-use Rattle.std.specs.Prelude.{◌≡◌, ℕ, ◌+◌, ◌*◌, ◌^◌, ◌<◌, ◌≤◌, true, cond, not, ◌&&◌, List, eqb, length, get_or, take, drop}
+use Rattle.std.specs.Prelude.{◌≡◌, ℕ, ◌+◌, ◌*◌, ◌^◌, ◌<◌, ◌≤◌, true, cond, not, ◌&&◌, List, Result, eqb, length, get_or, take, drop}
 use Rattle.std.specs.Int.Bits.{bit_xor}
 use Rattle.relation.specs.Sets.{has, empty, universal, intersect, unite, union_of}
 use Rattle.lanes.specs.Lists.{list_of}
 use Rattle.lanes.specs.Words.{set_at, wired}
 use Rattle.lanes.specs.Places.{visited}
-use Rattle.round.specs.declared.rounds.Came.{Came}
+use Rattle.round.specs.declared.rounds.Emptied.{Emptied}
 use Rattle.planes.specs.Planes.{block_of}
 use Rattle.round.specs.Onward.{onward_of}
 use Rattle.round.specs.Calls.{came_of, round_leaves}
@@ -78,11 +78,11 @@ pub record Wiring (live : ℕ) (old onward : List ℕ) : Type 0 where
   pub wired : (k : ℕ) → has live k ≡ true → Wired (block_of old k) (part_of onward k) 8
 
 -- the blocks of a round are made, and what it came to
-pub record Blocks (n live : ℕ) (old new new' : List ℕ) (answer : Came) : Type 0 where
+pub record Blocks (n live : ℕ) (old new new' : List ℕ) (answer : Result ℕ Emptied) : Type 0 where
   pub came : answer ≡ came_of n live old
   pub in_new : new' ≡ round_leaves n live old new
 
 -- the round is made, and the words of the live regions
-pub record Made (n live : ℕ) (old new onward new' onward' : List ℕ) (answer : Came) : Type 0 where
+pub record Made (n live : ℕ) (old new onward new' onward' : List ℕ) (answer : Result ℕ Emptied) : Type 0 where
   pub blocks : Blocks n live old new new' answer
   pub in_onward : onward' ≡ onward_of live old onward

@@ -6,4 +6,4 @@ mod rounds;
 mod through;
 mod words;
 
-pub use rounds::{Came, round};
+pub use rounds::{Emptied, round};

@@ -5,48 +5,48 @@ ghost use Rattle.round.specs.Inner.{Ready, Wiring, Blocks, Made};
 
 use crate::onward::spread_out;
 use crate::through::{chosen, empty_lane, through};
-use crate::words::{differing, load, store};
+use crate::words::differing;
+use planes::{block_at, put_block};
 
-// What a round came to: the row and the column of the first empty set in row order, the row past the last if there is none; and the
-// columns that changed, which are the live regions of the next round.
-#[derive(Clone, Copy)]
-pub struct Came {
+// Where the first empty set is, in row order.
+#[derive(Clone, Copy, PartialEq, Eq, Debug)]
+pub struct Emptied {
     pub row: usize,
     pub column: usize,
-    pub changed: u64,
 }
 
-// The blocks of the round, up to the first with an empty set.
-fn make_blocks(n: usize, live: u64, old: &[u64], new: &mut [u64], onward: &[u64]) -> Came
+// The blocks of the round, up to the first with an empty set; where there is none, the columns that changed.
+fn make_blocks(
+    n: usize,
+    live: u64,
+    old: &[u64],
+    new: &mut [u64],
+    onward: &[u64],
+) -> Result<u64, Emptied>
     requires { Ready n live (length old.now) (length new.old) (length onward.now) × Wiring live old.now onward.now }
     ensures { Blocks n live old.now new.old new.new result }
 {
-    let mut changed: u64 = 0;
-    let mut b: usize = 0;
-    while b < n {
-        let w = load(old, b);
-        let all = through(w, chosen(live, w, b), onward);
-        store(new, b, all);
-        let x = empty_lane(all);
-        if x < 64 {
-            return Came {
-                row: b,
-                column: x,
-                changed: 0,
-            };
+    let mut changed = 0;
+    for row in 0..n {
+        let w = block_at(old, row);
+        let all = through(w, chosen(live, w, row), onward);
+        put_block(new, row, all);
+        if let Some(column) = empty_lane(all) {
+            return Err(Emptied { row, column });
         }
-        changed = changed | differing(all, w);
-        b += 1;
+        changed |= differing(all, w);
     }
-    Came {
-        row: n,
-        column: 0,
-        changed: changed,
-    }
+    Ok(changed)
 }
 
 // The round, where n and all lengths serve and the live regions are below n.
-fn make_round(n: usize, live: u64, old: &[u64], new: &mut [u64], onward: &mut [u64]) -> Came
+fn make_round(
+    n: usize,
+    live: u64,
+    old: &[u64],
+    new: &mut [u64],
+    onward: &mut [u64],
+) -> Result<u64, Emptied>
     requires { Ready n live (length old.now) (length new.old) (length onward.old) }
     ensures { Made n live old.now new.old onward.old new.new onward.new result }
 {
@@ -58,19 +58,7 @@ fn make_round(n: usize, live: u64, old: &[u64], new: &mut [u64], onward: &mut [u
 fn serves(n: usize, old: usize, new: usize, onward: usize) -> bool
     ensures { result ≡ serves_round n old new onward }
 {
-    if n < 1 {
-        return false;
-    }
-    if 64 < n {
-        return false;
-    }
-    if old != 8 * n {
-        return false;
-    }
-    if new != 8 * n {
-        return false;
-    }
-    64 * n <= onward
+    (1..=64).contains(&n) && old == 8 * n && new == 8 * n && 64 * n <= onward
 }
 
 // The regions of a mask that are below n.
@@ -78,19 +66,22 @@ fn below(n: usize, live: u64) -> u64
     requires { (1 ≤ n) × (n ≤ 64) }
     ensures { result ≡ below n live }
 {
-    live & (18446744073709551615u64 >> (64 - n))
+    live & (u64::MAX >> (64 - n))
 }
 
-// A round from `old` to `new` through the live regions. `onward` is room for what the live rows give: 64 words to a region.
-pub fn round(n: usize, live: u64, old: &[u64], new: &mut [u64], onward: &mut [u64]) -> Came
+// A round from `old` to `new` through the live regions: the columns that changed, which are the live regions of the next round, or where the
+// first empty set is; row 0, column 0 where n or a length does not serve. `onward` is room for what the live rows give: 64 words to a region.
+pub fn round(
+    n: usize,
+    live: u64,
+    old: &[u64],
+    new: &mut [u64],
+    onward: &mut [u64],
+) -> Result<u64, Emptied>
     ensures { Rounds n live old.now new.old onward.old new.new onward.new result }
 {
     if serves(n, old.len(), new.len(), onward.len()) {
         return make_round(n, below(n, live), old, new, onward);
     }
-    Came {
-        row: 0,
-        column: 0,
-        changed: 0,
-    }
+    Err(Emptied { row: 0, column: 0 })
 }

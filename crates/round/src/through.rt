@@ -1,5 +1,5 @@
 // A block of rows through the regions that it is worth going through.
-ghost use Rattle.std.specs.Prelude.{◌≡◌, ◌<◌, eqb, length};
+ghost use Rattle.std.specs.Prelude.{◌≡◌, ◌<◌, ◌≤◌, MatchOption, eqb, length};
 ghost use Rattle.lists.specs.Least.{least};
 ghost use Rattle.lanes.specs.Words.{set_at};
 ghost use Rattle.round.specs.Inner.{Room, Chosen, block_through};
@@ -25,17 +25,18 @@ pub(crate) fn through(w: [u64; 8], ks: u64, onward: &[u64]) -> [u64; 8]
     while left != 0 {
         let k = lowest(left);
         left = without_lowest(left);
-        let from = 64 * k;
-        let end = from + 64;
-        let next = narrow(all, everywhere(w, k), &onward[from..end]);
+        let next = narrow(all, everywhere(w, k), &onward[64 * k..64 * k + 64]);
         all = next;
     }
     all
 }
 
-// The first lane whose set is empty; 64 if there is none.
-pub(crate) fn empty_lane(w: [u64; 8]) -> usize
-    ensures { result ≡ least 64 (λ x. eqb (set_at w x) 0) }
+// The first lane whose set is empty.
+pub(crate) fn empty_lane(w: [u64; 8]) -> Option<usize>
+    ensures { let first = least 64 (λ x. eqb (set_at w x) 0) in MatchOption result (64 ≤ first) (λ x. (x ≡ first) × (x < 64)) }
 {
-    lowest(!members(w))
+    match !members(w) {
+        0 => None,
+        empty => Some(lowest(empty)),
+    }
 }

@@ -1,18 +1,7 @@
--- `round::words::met` meets its contract. The loop's invariant: the first r words are made.
-use mathlib.Core.Path.{refl}
-use native.Mathlib.Omega.{arith}
-use lib.ListN.{length-set}
-use Rattle.lanes.proofs.Lists.{none-stored, one_stored}
+-- `round::words::met` meets its contract.
 use Rattle.std.proofs.Common.{rules}
+use Rattle.lanes.proofs.Made.{from_fn_list}
 use Rattle.round.proofs.words.met.Goals as goal
 
-pub loop-r-init : goal.loop-r-init
-loop-r-init c = (search rules, search rules, none-stored _)
-
-pub loop-r-preserved : goal.loop-r-preserved
-loop-r-preserved c =
-    let loop = c.loop-r in (
-      search rules,
-      simp length-set loop.invariant.1,
-      one_stored loop.less _ loop.r _ (omega arith) loop.invariant.2 refl,
-    )
+pub returns : goal.returns
+returns c = from_fn_list c.from_fn.ensures.items (λ i y q h k. search rules)

@@ -1,11 +1,7 @@
 -- `round::words::narrow` meets its contract. The loop's invariant: one is gathered from the relations below p.
-use Prim.Native.Nat.{◌-◌, ◌≤◌}
 use mathlib.Core.Path.{◌≡◌}
 use Rattle.round.proofs.Narrowing.{gathered}
 use Rattle.round.proofs.words.narrow.Given as goal
 
 abbrev pub invariant-loop-p : goal.invariant-loop-p
-invariant-loop-p l = (l.p ≤ 8) × (l.one ≡ gathered l.a l.onward l.p)
-
-abbrev pub decreases-loop-p : goal.decreases-loop-p
-decreases-loop-p l = 8 - l.p
+invariant-loop-p l = l.one ≡ gathered l.a l.onward l.p
