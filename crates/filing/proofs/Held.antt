@@ -181,7 +181,7 @@ module _ {start : ℕ → ℕ → ℕ} {said : Said} {identifiers cells marks : 
 
   -- all is said
   pub held_ends : (before : Areas) → Lent before
-      → holding identifiers (packed (regions said) cells) (packed (regions said) marks) ≡ filled start said before
+      → holding identifiers (packed 0 (regions said) cells) (packed 0 (regions said) marks) ≡ filled start said before
   held_ends before lent =
       let rows : Rows cells (regions said) = record { long = held_lent.cells-long; few = h.few } in
       let mark_rows : Rows marks (regions said) = record { long = held_lent.marks-long; few = h.few } in

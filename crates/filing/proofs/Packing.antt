@@ -1,20 +1,17 @@
--- Cells in rows of 64 packed into rows of n: where each comes from, and that none moves towards the end.
-use mathlib.Core.Path.{◌≡◌, sym, ◌∙◌}
-use mathlib.Core.List.{List}
-use Prim.Native.Nat.{ℕ, ◌+◌, ◌*◌, ◌≤◌, ◌<◌}
+-- Entries in rows of 64 packed into rows of n: where each comes from, and that none moves towards the end.
+use Rattle.std.proofs.Common.{◌≡◌, refl, sym, ◌∙◌, arith, List, ℕ, ◌+◌, ◌*◌, ◌≤◌, ◌<◌, length, get_or, set}
+use Rattle.std.proofs.lemmas.List.{ext_get_or, get_or_default, get_or-set_same, get_or-set_other}
+use Rattle.std.proofs.lemmas.List.FromFn.{length-map-range_with_len, get_or-map-range_with_len}
+use lib.ListN.{length-set}
 use native.Mathlib.Nat.{le_trans, mul-le-mul, mul-le-mul_left}
-use native.Mathlib.Omega.{arith}
-use borrow.Author.Tests.{eq-eqb, ne_eqb, le-leb, lt-leb}
-use lib.ListN.{length, get_or, set}
-use Rattle.lists.proofs.Splits.{split_lt}
-use Rattle.lists.proofs.LaidLaws.{get_or-laid_past}
-use Rattle.lists.proofs.Filling.{Filling, filling_more}
+use borrow.Author.Tests.{eq-eqb, le-leb}
+use Rattle.lists.proofs.Splits.{split_lt, split_eq}
 use Rattle.matrix.specs.Square.{most_regions}
-use Rattle.matrix.specs.Cells.{cell, row, column, grid}
-use Rattle.matrix.proofs.CellLaws.{length-grid, at_place, row_lt, column_lt, place-back, cell-grid, grid-same}
-use Rattle.filing.specs.Areas.{lent_cells, padded, packed}
+use Rattle.matrix.specs.Cells.{row, column, grid}
+use Rattle.matrix.proofs.CellLaws.{length-grid, at_place, row_lt, column_lt, place-back, cell-grid}
+use Rattle.filing.specs.Areas.{lent_cells, padded, padded_with, in_rows, packed}
 use Rattle.filing.specs.Inner.{Rows}
-use Rattle.filing.proofs.Padded.{length-padded, padded_in, padded_past}
+use Rattle.filing.proofs.Padded.{length-padded_with, padded_with_in, padded_with_past}
 
 -- n rows of n have no more cells than 64 rows of 64
 pub few-cells : (n : ℕ) → n ≤ most_regions → n * n ≤ lent_cells
@@ -36,63 +33,93 @@ among-rows n at h l = record { row-few = le_trans (row_lt n at l) h; column-few 
 source_le : (n at : ℕ) → n ≤ most_regions → at ≤ row n at * most_regions + column n at
 source_le n at h = omega (arith, place-back n at, mul-le-mul_left (row n at) h)
 
--- cells that are not such rows are left
-pub other-cells : (n : ℕ) (cells : List ℕ) → (length cells ≡ lent_cells → ⊥) → cells ≡ packed n cells
-unfolding packed
-other-cells n cells d = rw (ne_eqb (length cells) lent_cells d)
+module _ {A : Type 0} (nothing : A) (n : ℕ) (entries : List A) where
+  length-in_rows : length (in_rows nothing n entries) ≡ n * n
+  length-in_rows = length-map-range_with_len (λ p. get_or entries (row n p * most_regions + column n p) nothing) 0 (n * n)
 
-pub too_many : (n : ℕ) (cells : List ℕ) → length cells ≡ lent_cells → most_regions < n → cells ≡ packed n cells
-unfolding packed
-too_many n cells e h = rw (eq-eqb (length cells) lent_cells e, lt-leb n most_regions h)
+  in_rows_at : (at : ℕ) → at < n * n → get_or (in_rows nothing n entries) at nothing ≡ get_or entries (row n at * most_regions + column n at) nothing
+  in_rows_at at h =
+      get_or-map-range_with_len (λ p. get_or entries (row n p * most_regions + column n p) nothing) 0 (n * n) at at nothing h (omega arith)
 
-module _ (n : ℕ) (cells : List ℕ) (rows : Rows cells n) where
+module _ {A : Type 0} (nothing : A) (n : ℕ) (entries : List A) (rows : Rows entries n) where
   -- rows of 64 become rows of n
-  packed-rows : packed n cells ≡ padded (length cells) (grid n (cell most_regions cells))
+  packed-rows : packed nothing n entries ≡ padded_with nothing (length entries) (in_rows nothing n entries)
   unfolding packed
-  packed-rows = rw (eq-eqb (length cells) lent_cells rows.long, le-leb n most_regions rows.few)
+  packed-rows = rw (eq-eqb (length entries) lent_cells rows.long, le-leb n most_regions rows.few) refl
 
-  pub length-packed : length (packed n cells) ≡ length cells
+  pub length-packed : length (packed nothing n entries) ≡ length entries
   length-packed =
       rw packed-rows
-      (length-padded (length cells) (grid n (cell most_regions cells))
-      (omega (arith, length-grid n (cell most_regions cells), few-cells n rows.few, rows.long)))
+      (length-padded_with nothing (length entries) (in_rows nothing n entries)
+      (omega (arith, length-in_rows nothing n entries, few-cells n rows.few, rows.long)))
 
-  pub packed_in : (at : ℕ) → at < n * n → get_or (packed n cells) at 0 ≡ cell most_regions cells (row n at) (column n at)
+  pub packed_in : (at : ℕ) → at < n * n
+      → get_or (packed nothing n entries) at nothing ≡ get_or entries (row n at * most_regions + column n at) nothing
   packed_in at h =
       rw packed-rows
-      (padded_in (length cells) (grid n (cell most_regions cells)) at (omega (arith, length-grid n (cell most_regions cells)))
-      ∙ at_place n (cell most_regions cells) at h)
+      (padded_with_in nothing (length entries) (in_rows nothing n entries) at (omega (arith, length-in_rows nothing n entries))
+      ∙ in_rows_at nothing n entries at h)
 
-  pub packed_past : (at : ℕ) → n * n ≤ at → get_or (packed n cells) at 0 ≡ 0
+  -- so an entry that was read there belongs there
+  pub packed_read : (at : ℕ) (x : A) → at < n * n → x ≡ get_or entries (row n at * most_regions + column n at) x
+      → x ≡ get_or (packed nothing n entries) at nothing
+  packed_read at x h e =
+      let among = among-rows n at rows.few h in
+      let there : row n at * most_regions + column n at < length entries = omega (arith, among.row-few, among.column-few, rows.long) in
+      e ∙ get_or_default entries (row n at * most_regions + column n at) x nothing there ∙ sym (packed_in at h)
+
+  pub packed_past : (at : ℕ) → n * n ≤ at → get_or (packed nothing n entries) at nothing ≡ nothing
   packed_past at h =
       rw packed-rows
-      (padded_past (length cells) (grid n (cell most_regions cells)) at (omega (arith, length-grid n (cell most_regions cells))))
+      (padded_with_past nothing (length entries) (in_rows nothing n entries) at (omega (arith, length-in_rows nothing n entries)))
 
-  -- so the cells of 64 regions become those of n
-  pub packed-grid : (f : ℕ → ℕ → ℕ) → cells ≡ grid most_regions f → packed n cells ≡ padded lent_cells (grid n f)
-  packed-grid f e =
-      let same : grid n (cell most_regions (grid most_regions f)) ≡ grid n f =
-      grid-same n (cell most_regions (grid most_regions f)) f
-      (λ i j hi hj. cell-grid most_regions f i j (omega (arith, rows.few)) (omega (arith, rows.few)))
-      in
-      rw (packed-rows, rows.long, e, same)
+-- so the cells of 64 regions become those of n
+pub packed-grid : (n : ℕ) (cells : List ℕ) → Rows cells n → (f : ℕ → ℕ → ℕ) → cells ≡ grid most_regions f
+    → packed 0 n cells ≡ padded lent_cells (grid n f)
+packed-grid n cells rows f e =
+    let same : in_rows 0 n (grid most_regions f) ≡ grid n f =
+    ext_get_or 0 (in_rows 0 n (grid most_regions f)) (grid n f) (length-in_rows 0 n (grid most_regions f) ∙ sym (length-grid n f))
+    (λ at l.
+    let h : at < n * n = omega (arith, length-in_rows 0 n (grid most_regions f)) in
+    let among = among-rows n at rows.few h in
+    in_rows_at 0 n (grid most_regions f) at h ∙ cell-grid most_regions f (row n at) (column n at) among.row-few among.column-few
+    ∙ sym (at_place n f at h)) in
+    rw (packed-rows 0 n cells rows, rows.long, e, same) refl
 
--- a loop that packs cells from the front reads none that it has written
-module _ (n : ℕ) (before cells : List ℕ) (at : ℕ) (rows : Rows before n) (w : Filling (packed n before) before cells at) where
-  pub packing_rows : Rows cells n
+-- a loop that packs entries from the front: those before the place are packed, the others are as they were
+pub record Packed {A : Type 0} (nothing : A) (n : ℕ) (before entries : List A) (at : ℕ) : Type 0 where
+  pub long : length entries ≡ length before
+  pub so_far : (k : ℕ) → k < at → get_or entries k nothing ≡ get_or (packed nothing n before) k nothing
+  pub left : (k : ℕ) → at ≤ k → get_or entries k nothing ≡ get_or before k nothing
+
+-- it reads none that it has written
+module _ {A : Type 0} (nothing : A) (n : ℕ) (before entries : List A) (at : ℕ) (rows : Rows before n)
+    (w : Packed nothing n before entries at) where
+  pub packing_rows : Rows entries n
   packing_rows = record { long = w.long ∙ rows.long; few = rows.few }
 
-  not_written : get_or (packed n cells) at 0 ≡ get_or (packed n before) at 0
+  not_written : get_or (packed nothing n entries) at nothing ≡ get_or (packed nothing n before) at nothing
   not_written =
       split_lt at (n * n)
       (λ l.
-      packed_in n cells packing_rows at l
-      ∙ rw w.so_far
-      (get_or-laid_past at (packed n before) before (row n at * most_regions + column n at) (source_le n at rows.few)
-      (omega (arith, w.within, length-packed n before rows)))
-      ∙ sym (packed_in n before rows at l))
-      (λ l. packed_past n cells packing_rows at l ∙ sym (packed_past n before rows at l))
+      packed_in nothing n entries packing_rows at l
+      ∙ w.left (row n at * most_regions + column n at) (source_le n at rows.few)
+      ∙ sym (packed_in nothing n before rows at l))
+      (λ l. packed_past nothing n entries packing_rows at l ∙ sym (packed_past nothing n before rows at l))
 
-  pub packing_more : (x : ℕ) → at < length cells → x ≡ get_or (packed n cells) at 0
-      → Filling (packed n before) before (set cells at x) (at + 1)
-  packing_more x h e = filling_more (packed n before) before cells at (length-packed n before rows) w x h (e ∙ not_written)
+  pub packing_more : (x : A) → at < length entries → x ≡ get_or (packed nothing n entries) at nothing
+      → Packed nothing n before (set entries at x) (at + 1)
+  packing_more x h e =
+      record {
+        long = length-set entries at x ∙ w.long;
+        so_far = λ k l.
+            split_eq k at
+            (λ s. rw s (get_or-set_same entries at x nothing h ∙ e ∙ not_written))
+            (λ d. get_or-set_other entries at k x nothing d ∙ w.so_far k (omega arith));
+        left = λ k l. get_or-set_other entries at k x nothing (omega arith) ∙ w.left k (omega arith);
+      }
+
+  pub packing_ends : length entries ≤ at → entries ≡ packed nothing n before
+  packing_ends h =
+      ext_get_or nothing entries (packed nothing n before) (w.long ∙ sym (length-packed nothing n before rows))
+      (λ k l. w.so_far k (omega arith))

@@ -1,7 +1,12 @@
 -- No second answer meets the contract of a function that files.
 use mathlib.Core.Path.{◌≡◌, sym, ap, ◌∙◌}
 use contract.Lifetimes.{Lfts}
+use denote.Builtin.{u16}
+use denote.Param.Laws.{Laws, IsCopy}
+use denote.RattleType.{RattleType}
 use denote.Triple.Clauses.{AtExit}
+use mir.Syntax.{Dict}
+use Rattle.std.specs.declared.clone.Clone.{Ghosts}
 use borrow.Fn.Kinds.{Dens, res_t, ended_of}
 use Rattle.filing.specs.Areas.{Areas}
 use Rattle.filing.proofs.are_lent.Kinds as lending
@@ -20,8 +25,6 @@ use Rattle.filing.proofs.file.Kinds as filing
 use Rattle.filing.proofs.file.Reads.{Post as Files}
 use Rattle.filing.proofs.pack.Kinds as packing
 use Rattle.filing.proofs.pack.Reads.{Post as Packs}
-use Rattle.filing.proofs.pack_marks.Kinds as packing-marks
-use Rattle.filing.proofs.pack_marks.Reads.{Post as PacksMarks}
 
 -- equal areas are equal each by each
 pub each_area : {one other : Areas} → one ≡ other
@@ -54,15 +57,20 @@ pub file_unique : (κs : Lfts 1) (a : Dens κs filing.ps) (r r' : (res_t filing.
     (s s' : AtExit (ended_of 1 filing.ps filing.r) κs) → Files κs a r s → Files κs a r' s' → s.0.now ≡ s'.0.now
 file_unique κs a r r' s s' p q = p ∙ sym q
 
-pub pack_unique : (κs : Lfts 1) (a : Dens κs packing.ps) (r r' : (res_t packing.r κs).Denot)
-    (s s' : AtExit (ended_of 1 packing.ps packing.r) κs) → Packs κs a r s → Packs κs a r' s' → s.0.now ≡ s'.0.now
-pack_unique κs a r r' s s' p q = p ∙ sym q
-
 pub mark_unique : (κs : Lfts 2) (a : Dens κs marking.ps) (r r' : (res_t marking.r κs).Denot)
     (s s' : AtExit (ended_of 2 marking.ps marking.r) κs) → Marks κs a r s → Marks κs a r' s' → s.1.0.now ≡ s'.1.0.now
 mark_unique κs a r r' s s' p q = p ∙ sym q
 
-pub pack_marks_unique : (κs : Lfts 1) (a : Dens κs packing-marks.ps) (r r' : (res_t packing-marks.r κs).Denot)
-    (s s' : AtExit (ended_of 1 packing-marks.ps packing-marks.r) κs) → PacksMarks κs a r s → PacksMarks κs a r' s'
-    → s.0.now ≡ s'.0.now
-pack_marks_unique κs a r r' s s' p q = p ∙ sym q
+-- whatever the entries are
+module _ (T : RattleType) (L : Laws T) (C : IsCopy T) (G : Ghosts T.Denot) (d : Dict) where
+  pub pack_unique : (κs : Lfts 2) (a : Dens κs (packing.ps T L C)) (r r' : (res_t (packing.r T L C) κs).Denot)
+      (s s' : AtExit (ended_of 2 (packing.ps T L C) (packing.r T L C)) κs)
+      → Packs T L C G d κs a r s → Packs T L C G d κs a r' s' → s.0.now ≡ s'.0.now
+  pack_unique κs a r r' s s' p q = p ∙ sym q
+
+-- so of marks, which are of 16 bits
+module _ (L : Laws u16) (C : IsCopy u16) (G : Ghosts u16.Denot) (d : Dict) where
+  pub pack_marks_unique : (κs : Lfts 2) (a : Dens κs (packing.ps u16 L C)) (r r' : (res_t (packing.r u16 L C) κs).Denot)
+      (s s' : AtExit (ended_of 2 (packing.ps u16 L C) (packing.r u16 L C)) κs)
+      → Packs u16 L C G d κs a r s → Packs u16 L C G d κs a r' s' → s.0.now ≡ s'.0.now
+  pack_marks_unique = pack_unique u16 L C G d

@@ -1,8 +1,9 @@
 -- The lent areas that what was said is laid into, and what a call leaves in them.
-use Rattle.std.specs.Prelude.{◌≡◌, Bool, not, cond, ◌&&◌, List, ◌++◌, ℕ, ◌+◌, ◌-◌, ◌*◌, eqb, leb, length, replicate, set}
+use Rattle.std.specs.Prelude.{◌≡◌, Bool, not, cond, ◌&&◌, List, ◌++◌, ℕ, ◌+◌, ◌-◌, ◌*◌, eqb, leb, length, get_or, map, replicate, set}
+use Rattle.std.specs.List.{range_with_len}
 use Rattle.relation.specs.Sets.{intersect}
 use Rattle.matrix.specs.Square.{most_regions}
-use Rattle.matrix.specs.Cells.{cell, grid, cell_or_empty, narrowed_cells}
+use Rattle.matrix.specs.Cells.{row, column, cell_or_empty, narrowed_cells}
 use Rattle.filing.specs.Said.{Statement, Said}
 use Rattle.filing.specs.Stated.{cells_of}
 use Rattle.filing.specs.Marks.{marks_of}
@@ -50,9 +51,13 @@ emptied = started 0
 abbrev pub cleared : ℕ → Areas → Areas
 cleared number areas = cond (eqb number 2) areas (emptied areas)
 
+-- a list and one and the same entry after it, up to a length
+abbrev pub padded_with : {A : Type 0} → A → ℕ → List A → List A
+padded_with entry size l = l ++ replicate (size - length l) entry
+
 -- a list and zeros after it, up to a length
 abbrev pub padded : ℕ → List ℕ → List ℕ
-padded size l = l ++ replicate (size - length l) 0
+padded size l = padded_with 0 size l
 
 -- after an acceptance: the identifiers by place, the cells and their marks in rows of n, and 0 past the last of each
 abbrev pub filled : (ℕ → ℕ → ℕ) → Said → Areas → Areas
@@ -73,10 +78,14 @@ abbrev pub marked_in : List ℕ → List ℕ → Statement → ℕ → List ℕ
 marked_in cells marks s number =
     cond (removes_from s (cell_or_empty most_regions cells s.from s.to)) (set marks (s.from * most_regions + s.to) number) marks
 
--- 4,096 cells can be taken as rows of 64, for at most 64 regions
-abbrev pub has_rows : ℕ → List ℕ → Bool
-has_rows n cells = eqb (length cells) lent_cells && leb n most_regions
+-- 4,096 entries can be taken as rows of 64, for at most 64 regions
+abbrev pub has_rows : {A : Type 0} → ℕ → List A → Bool
+has_rows n entries = eqb (length entries) lent_cells && leb n most_regions
 
--- rows of 64 cells as rows of n, and 0 behind them; other cells as they were
-unfoldable pub packed : ℕ → List ℕ → List ℕ
-packed n cells = cond (has_rows n cells) (padded (length cells) (grid n (cell most_regions cells))) cells
+-- the entries of n regions, in rows of n, out of rows of 64
+abbrev pub in_rows : {A : Type 0} → A → ℕ → List A → List A
+in_rows nothing n entries = map (λ p. get_or entries (row n p * most_regions + column n p) nothing) (range_with_len 0 (n * n))
+
+-- rows of 64 entries as rows of n, and nothing behind them; other entries as they were
+unfoldable pub packed : {A : Type 0} → A → ℕ → List A → List A
+packed nothing n entries = cond (has_rows n entries) (padded_with nothing (length entries) (in_rows nothing n entries)) entries

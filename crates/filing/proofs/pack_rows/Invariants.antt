@@ -1,12 +1,6 @@
--- The invariant of the loop of `filing::pack_rows`: the cells before `at` are packed, the others are as they were.
-use Prim.Native.Nat.{◌-◌}
-use lib.ListN.{length}
-use Rattle.filing.specs.Areas.{packed}
-use Rattle.lists.proofs.Filling.{Filling}
+-- The invariant of the loop of `filing::pack_rows`: the entries before `at` are packed, the others are as they were.
+use Rattle.filing.proofs.Packing.{Packed}
 use Rattle.filing.proofs.pack_rows.Given as goal
 
 abbrev pub invariant-loop-at : goal.invariant-loop-at
-invariant-loop-at l = Filling (packed l.n l.initial.cells) l.initial.cells l.cells l.at
-
-abbrev pub decreases-loop-at : goal.decreases-loop-at
-decreases-loop-at l = length l.initial.cells - l.at
+invariant-loop-at g l = Packed l.nothing l.n l.initial.entries l.entries l.at
