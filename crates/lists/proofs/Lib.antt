@@ -2,6 +2,7 @@
 pub mod Splits
 pub mod Sums
 pub mod LeastLaws
+pub mod Found
 -- a list by a rule for its entries
 pub mod TabledLaws
 -- areas filled in front

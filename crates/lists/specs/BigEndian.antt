@@ -14,9 +14,13 @@ number_at s at = get_or s at 0 * 16777216 + get_or s (at + 1) 0 * 65536 + get_or
 abbrev pub big_endian : ℕ → List ℕ
 big_endian x = x / 16777216 % 256 ∷ x / 65536 % 256 ∷ x / 256 % 256 ∷ x % 256 ∷ []
 
--- an area after a number's bytes are put at an offset, if all four fit
+-- an area after bytes are put at an offset, if all of them fit
+abbrev pub bytes_put : List ℕ → ℕ → List ℕ → List ℕ
+bytes_put area at bytes = cond (leb (at + length bytes) (length area)) (sets area at bytes) area
+
+-- an area after a number's four bytes are
 abbrev pub number_put : List ℕ → ℕ → ℕ → List ℕ
-number_put area at x = cond (leb (at + 4) (length area)) (sets area at (big_endian x)) area
+number_put area at x = bytes_put area at (big_endian x)
 
 -- numbers as bytes, one after the other
 unfoldable pub numbers_bytes : List ℕ → List ℕ
@@ -34,7 +38,7 @@ two_bytes x = x / 256 % 256 ∷ x % 256 ∷ []
 
 -- an area after a number's two bytes are put at an offset, if both fit
 abbrev pub two_bytes_put : List ℕ → ℕ → ℕ → List ℕ
-two_bytes_put area at x = cond (leb (at + 2) (length area)) (sets area at (two_bytes x)) area
+two_bytes_put area at x = bytes_put area at (two_bytes x)
 
 -- numbers as bytes, two bytes each, one after the other
 unfoldable pub two_bytes_each : List ℕ → List ℕ

@@ -2,4 +2,3 @@ pub mod Least
 pub mod Laid
 pub mod Tabled
 pub mod BigEndian
-pub mod Inner
