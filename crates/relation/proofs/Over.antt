@@ -146,20 +146,21 @@ over-byte s f h = union_byte 8 (λ p. cond (has s p) (f p) empty) (λ p l. kept 
 unfoldable pub upto : ℕ → (ℕ → ℕ) → ℕ → ℕ
 upto s f n = union_of n (λ r. cond (has s r) (f r) empty)
 
-pub upto_none : (s : ℕ) (f : ℕ → ℕ) → empty ≡ upto s f 0
+pub upto_none : (s : ℕ) (f : ℕ → ℕ) → upto s f 0 ≡ empty
 unfolding upto union_of
 upto_none s f = refl
 
--- n is a member
-pub upto_taken : (s : ℕ) (f : ℕ → ℕ) (n union : ℕ) → union ≡ upto s f n → has s n ≡ true → unite union (f n) ≡ upto s f (n + 1)
+pub upto_next : (s : ℕ) (f : ℕ → ℕ) (n : ℕ) → upto s f (n + 1) ≡ cond (has s n) (unite (upto s f n) (f n)) (upto s f n)
 unfolding upto union_of
-upto_taken s f n union e t = rw (add-one, e, t)
-
--- n is none
-pub upto_left : (s : ℕ) (f : ℕ → ℕ) (n union : ℕ) → union ≡ upto s f n → has s n ≡ false → union ≡ upto s f (n + 1)
-unfolding upto union_of
-upto_left s f n union e t = rw (add-one, e, t, or_zero_r)
+upto_next s f n = rw add-one (go (has s n))
+  where
+    go : (b : Bool) → unite (upto s f n) (cond b (f n) empty) ≡ cond b (unite (upto s f n) (f n)) (upto s f n)
+    go true = refl
+    go false = or_zero_r _
 
 pub upto_all : (s : ℕ) (f : ℕ → ℕ) (n : ℕ) → n ≡ 8 → upto s f n ≡ over s f
 unfolding upto over
 upto_all s f n e = ap (upto s f) e
+
+-- what such a loop asks: its start, its turn and its end
+pub ruleset upto_laws = (upto_none, upto_next, upto_all)

@@ -13,7 +13,7 @@ ghost use Rattle.relation.specs.Lent.{listed, compose_by};
 
 use table::COMPOSITIONS;
 
-#[derive(Clone, Copy)]
+#[derive(Clone, Copy, PartialEq, Eq, Debug)]
 pub struct RelationSet(pub u8);
 
 // The table that composing reads: a set on the left, a single relation on the right.
@@ -53,35 +53,33 @@ impl RelationSet {
             ∷ only covers ∷ only overlap ∷ universal ∷ [] }
     {
         [
-            RelationSet::EMPTY.0,
-            RelationSet::DISJOINT.0,
-            RelationSet::MEET.0,
-            RelationSet::EQUAL.0,
-            RelationSet::INSIDE.0,
-            RelationSet::COVERED_BY.0,
-            RelationSet::CONTAINS.0,
-            RelationSet::COVERS.0,
-            RelationSet::OVERLAP.0,
-            RelationSet::UNIVERSAL.0,
+            RelationSet::EMPTY,
+            RelationSet::DISJOINT,
+            RelationSet::MEET,
+            RelationSet::EQUAL,
+            RelationSet::INSIDE,
+            RelationSet::COVERED_BY,
+            RelationSet::CONTAINS,
+            RelationSet::COVERS,
+            RelationSet::OVERLAP,
+            RelationSet::UNIVERSAL,
         ]
+        .map(|set| set.0)
     }
 
-    // Whether the relation with this place in the order of the bits is a member; no relation has a place above 7.
+    // Whether the relation with this place in the order of the bits is a member; above 7 no place has one. A number, and no kind of its
+    // own: `has_unique` speaks of every number.
     pub fn has(self, relation: usize) -> bool
         ensures { result ≡ has self.0 relation }
     {
-        if relation < 8 {
-            (self.0 >> relation) % 2 == 1
-        } else {
-            false
-        }
+        relation < 8 && (self.0 >> relation) % 2 == 1
     }
 
     // Whether every member of other is a member.
     pub fn contains(self, other: Self) -> bool
         ensures { result ≡ subset other.0 self.0 }
     {
-        other.0 & self.0 == other.0
+        other.intersect(self) == other
     }
 
     pub fn intersect(self, other: Self) -> Self
@@ -93,14 +91,14 @@ impl RelationSet {
     pub fn is_empty(self) -> bool
         ensures { result ≡ eqb self.0 empty }
     {
-        self.0 == 0
+        self == RelationSet::EMPTY
     }
 
     // How many members there are.
     pub fn size(self) -> u32
         ensures { result ≡ size self.0 }
     {
-        u8::count_ones(self.0)
+        self.0.count_ones()
     }
 
     pub fn converse(self) -> Self
@@ -114,17 +112,16 @@ impl RelationSet {
 
     // The composition by a table that the caller lends, in at most eight reads; by that of `compositions` it is the composition of
     // the two sets.
+    #[tactic(auto, using(crate::proofs::Over::upto_laws), unfolding(crate::specs::Lent::compose_by))]
     pub fn compose_by(self, entries: &Compositions, other: Self) -> Self
         ensures { result.0 ≡ compose_by entries.now self.0 other.0 }
     {
-        let from = 8 * (self.0 as usize);
-        let mut union: u8 = 0;
-        let mut q: usize = 0;
-        while q < 8 {
-            if other.has(q) {
-                union = union | entries[from + q];
+        let from = 8 * usize::from(self.0);
+        let mut union = 0;
+        for relation in 0..8 {
+            if other.has(relation) {
+                union |= entries[from + relation];
             }
-            q += 1;
         }
         RelationSet(union)
     }

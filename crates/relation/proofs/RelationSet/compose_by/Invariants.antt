@@ -1,5 +1,5 @@
--- `relation::RelationSet::compose_by` meets its contract. The loop's invariant: union is the union over the members of other below q.
-use Prim.Native.Nat.{ℕ, ◌+◌, ◌≤◌, ◌-◌}
+-- `relation::RelationSet::compose_by` meets its contract. The loop's invariant: the union over the members of other so far.
+use Prim.Native.Nat.{ℕ, ◌+◌, ◌*◌}
 use mathlib.Core.Path.{◌≡◌}
 use mathlib.Core.List.{List}
 use lib.ListN.{get_or}
@@ -10,8 +10,5 @@ use Rattle.relation.proofs.RelationSet.compose_by.Given as goal
 abbrev pub row : List ℕ → ℕ → ℕ → ℕ
 row entries from q = get_or entries (from + q) 0
 
-abbrev pub invariant-loop-q : goal.invariant-loop-q
-invariant-loop-q l = (l.q ≤ 8) × (l.union ≡ upto l.other.0 (row l.entries l.from) l.q)
-
-abbrev pub decreases-loop-q : goal.decreases-loop-q
-decreases-loop-q l = 8 - l.q
+abbrev pub invariant-loop-relation : goal.invariant-loop-relation
+invariant-loop-relation l = l.union ≡ upto l.other.0 (row l.entries (8 * l.fn.self.0)) l.relation
