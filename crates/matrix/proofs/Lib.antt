@@ -1,5 +1,5 @@
 -- cells by place, by row and column; the first empty and the first changed one; how many regions and cells
 pub mod CellLaws
-pub mod Placing
+pub mod Searches
 -- no second answer meets a contract
 pub mod Unique

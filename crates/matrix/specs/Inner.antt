@@ -1,11 +1,7 @@
 -- What functions inside the crate promise; no public contract cites it.
-use Rattle.std.specs.Prelude.{ℕ, ◌+◌, ◌*◌, cond}
+use Rattle.std.specs.Prelude.{ℕ, ◌+◌, ◌*◌, cond, Option, Some, None}
 use Rattle.matrix.specs.Cells.{is_cell}
 
--- a place past the end of every list of cells
-abbrev pub nowhere : ℕ
-nowhere = 18446744073709551615
-
--- the place of cell (i, j) in rows of a length, and nowhere if there is no such cell
-unfoldable pub cell_place : ℕ → ℕ → ℕ → ℕ
-cell_place width i j = cond (is_cell width i j) (i * width + j) nowhere
+-- the place of cell (i, j) in rows of a length, if there is such a cell
+abbrev pub cell_place : ℕ → ℕ → ℕ → Option ℕ
+cell_place width i j = cond (is_cell width i j) (Some (i * width + j)) None
