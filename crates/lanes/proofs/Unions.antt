@@ -3,18 +3,18 @@ use Prim.Native.Nat.{ℕ, zero, suc, ◌<◌}
 use mathlib.Core.Path.{◌≡◌, refl, sym, ap, ap₂, ◌∙◌, subst}
 use mathlib.Core.Logic.{◌⊎◌, inl, inr, ⊎_elim}
 use mathlib.Core.Bool.{Bool, true, false, cond, ◌&&◌, ◌||◌}
-use mathlib.Core.List.{List}
+use mathlib.Core.List.{List, [], ◌∷◌}
 use native.Mathlib.Nat.{le_refl, le-suc, le_trans, le_of_suc-le-suc, eq-or-lt_of_le, not-suc-le-zero}
-use lib.Bits.{or_zero_r}
+use native.Mathlib.Omega.{arith}
+use lib.Bits.{bit_or, or_zero_l, or_zero_r}
 use lib.Dec.{T, eqb, eqb→eq, eqb_refl}
-use lib.ListN.{get_or}
+use lib.ListN.{length, get_or}
+use Rattle.std.specs.List.{fold, zip}
+use Rattle.std.proofs.Math.Bool.{or_assoc}
 use Rattle.relation.specs.Sets.{has, empty, unite, union_of}
-use Rattle.relation.specs.Composition.{table}
 use Rattle.relation.proofs.Tests.{same, both, from_both, either, from_either}
-use Rattle.relation.proofs.Member.{has-unite, empty_has_none}
-use Rattle.lanes.specs.Lists.{list_of, some}
-use Rattle.lanes.specs.Words.{wired}
-use Rattle.lanes.proofs.Lists.{list_same}
+use Rattle.relation.proofs.Member.{ext, has-unite, empty_has_none}
+use Rattle.lanes.specs.Lists.{some}
 
 pub some_same : (n : ℕ) (f g : ℕ → Bool) → ((i : ℕ) → i < n → f i ≡ g i) → some n f ≡ some n g
 unfolding some
@@ -60,25 +60,42 @@ pub has_cond : (b : Bool) (a x : ℕ) → has (cond b a empty) x ≡ b && has a 
 has_cond true a x = refl
 has_cond false a x = empty-has x
 
--- ---- a union under a test, with what fails it left out
+-- ---- a union of the words that a row of entries picks
 
-unfoldable pub union_where : ℕ → (ℕ → Bool) → (ℕ → ℕ) → ℕ
-union_where zero t f = empty
-union_where (suc n) t f = let rest = union_where n t f in cond (t n) (unite rest (f n)) rest
+unite_assoc : (a b c : ℕ) → unite (unite a b) c ≡ unite a (unite b c)
+unite_assoc a b c =
+    ext (unite (unite a b) c) (unite a (unite b c)) (λ i.
+    has-unite (unite a b) c i ∙ ap (λ (x : Bool). x || has c i) (has-unite a b i) ∙ or_assoc (has a i) (has b i) (has c i)
+    ∙ sym (has-unite a (unite b c) i ∙ ap (λ (x : Bool). has a i || x) (has-unite b c i)))
 
-left_out : (b : Bool) (a x : ℕ) → unite a (cond b x empty) ≡ cond b (unite a x) a
-left_out true a x = refl
-left_out false a x = or_zero_r a
+first_apart : (n : ℕ) (f : ℕ → ℕ) → union_of (suc n) f ≡ unite (f 0) (union_of n (λ q. f (suc q)))
+unfolding union_of
+first_apart zero f = or_zero_l (f 0) ∙ sym (or_zero_r (f 0))
+first_apart (suc n) f =
+    ap (λ (u : ℕ). unite u (f (suc n))) (first_apart n f) ∙ unite_assoc (f 0) (union_of n (λ q. f (suc q))) (f (suc n))
 
-pub union_where_lem : (n : ℕ) (t : ℕ → Bool) (f : ℕ → ℕ) → union_of n (λ i. cond (t i) (f i) empty) ≡ union_where n t f
-unfolding union_of union_where
-union_where_lem zero t f = refl
-union_where_lem (suc n) t f =
-    left_out (t n) (union_of n (λ i. cond (t i) (f i) empty)) (f n)
-    ∙ ap (λ (u : ℕ). cond (t n) (unite u (f n)) u) (union_where_lem n t f)
+-- the words whose entries have r, united one after the other
+picked : (r : ℕ) (w row : List ℕ) (a : ℕ) → length row ≡ length w
+    → fold (λ all p. cond (has p.1 r) (bit_or all p.0) all) a (zip w row)
+    ≡ unite a (union_of (length w) (λ q. cond (has (get_or row q 0) r) (get_or w q 0) empty))
+unfolding union_of
+picked r [] row a e = sym (or_zero_r a)
+picked r (x ∷ w) [] a e = absurd (omega arith)
+picked r (x ∷ w) (y ∷ row) a e =
+    go (has y r) (λ b. picked r w row b (omega arith))
+    ∙ ap (unite a) (sym (first_apart (length w) (λ q. cond (has (get_or (y ∷ row) q 0) r) (get_or (x ∷ w) q 0) empty)))
+  where
+    others : ℕ
+    others = union_of (length w) (λ q. cond (has (get_or row q 0) r) (get_or w q 0) empty)
 
--- each word as the union of just the words that it is wired to
-pub wired-to : (p : ℕ) (w : List ℕ)
-    → wired p w ≡ list_of 8 (λ r. union_where 8 (λ q. has (table p q) r) (λ q. get_or w q 0))
-unfolding wired
-wired-to p w = list_same 8 _ _ (λ r h. union_where_lem 8 (λ q. has (table p q) r) (λ q. get_or w q 0))
+    go : (b : Bool) → ((a : ℕ) → fold (λ all p. cond (has p.1 r) (bit_or all p.0) all) a (zip w row) ≡ unite a others)
+        → fold (λ all p. cond (has p.1 r) (bit_or all p.0) all) (cond b (unite a x) a) (zip w row) ≡ unite a (unite (cond b x empty) others)
+    go true others_so = others_so (unite a x) ∙ unite_assoc a x others
+    go false others_so = others_so a ∙ ap (unite a) (sym (or_zero_l others))
+
+pub picked_eight : (r : ℕ) (w row : List ℕ) (y : ℕ) → length w ≡ 8 → length row ≡ 8
+    → y ≡ fold (λ all p. cond (has p.1 r) (bit_or all p.0) all) 0 (zip w row)
+    → y ≡ union_of 8 (λ q. cond (has (get_or row q 0) r) (get_or w q 0) empty)
+picked_eight r w row y e f is =
+    is ∙ picked r w row 0 (f ∙ sym e) ∙ or_zero_l _
+    ∙ ap (λ (n : ℕ). union_of n (λ q. cond (has (get_or row q 0) r) (get_or w q 0) empty)) e

@@ -1,24 +1,16 @@
 -- The wiring of one relation: by fields or by a list it is the same, and past the eight relations nothing is wired.
-use Prim.Native.Nat.{ℕ, zero, suc, ◌+◌, ◌≤◌}
+use Prim.Native.Nat.{ℕ, zero, suc, ◌≤◌}
 use mathlib.Core.Path.{◌≡◌, refl, sym, ap, ap₂, ◌∙◌}
 use mathlib.Core.Bool.{Bool, cond}
 use mathlib.Core.List.{List, []}
-use native.Mathlib.Omega.{arith}
 use lib.ListN.{length, get_or, replicate, get_or-eq_default}
 use Rattle.relation.specs.Sets.{has, empty, unite, union_of}
 use Rattle.relation.specs.Composition.{rows, table}
 use Rattle.lists.specs.Tabled.{tabled}
 use Rattle.lanes.specs.Lists.{list_of}
 use Rattle.lanes.specs.Words.{wired}
-use Rattle.lanes.specs.Inner.{words_of, fields_of}
-use Rattle.lanes.specs.declared.along.Eight.{Eight}
 use Rattle.lanes.proofs.Lists.{list_length, list_same}
 use Rattle.lanes.proofs.Unions.{empty-has}
-
--- the wiring reads eight words alone
-pub wired_fields : (p : ℕ) (b : List ℕ) → wired p (words_of (fields_of b)) ≡ wired p b
-unfolding wired tabled union_of
-wired_fields p b = refl
 
 pub wired-length : (p : ℕ) (w : List ℕ) → length (wired p w) ≡ 8
 unfolding wired
@@ -45,12 +37,3 @@ wired-none p w h =
     union_none 8 _ (λ q. ap (λ (s : ℕ). cond (has s r) (get_or w q 0) empty) (no_entry p q h)
     ∙ ap (λ (b : Bool). cond b (get_or w q 0) empty) (empty-has r)))
     ∙ nothing)
-
--- by the fields of the words, and by another name of the relation
-pub wired_by : (p k : ℕ) (b : List ℕ) (w : Eight) (r : List ℕ) → p ≡ k → w ≡ fields_of b → r ≡ wired k (words_of w) → r ≡ wired p b
-wired_by p k b w r e f q =
-    q ∙ ap (λ (x : Eight). wired k (words_of x)) f ∙ wired_fields k b ∙ ap (λ (x : ℕ). wired x b) (sym e)
-
--- a number that is none of those below it
-pub one_above : (k p : ℕ) → k ≤ p → (p ≡ k → ⊥) → k + 1 ≤ p
-one_above k p h n = omega arith

@@ -1,11 +1,8 @@
--- What only inner functions' contracts cite: eight words as the fields of a struct, which are read with no index, and as a list.
-use Rattle.std.specs.Prelude.{ℕ, List, [], ◌∷◌, get_or}
-use Rattle.lanes.specs.declared.along.Eight.{Eight}
+-- What only inner functions' contracts cite: eight words wired by the row of one relation.
+use Rattle.std.specs.Prelude.{ℕ, cond, List, get_or}
+use Rattle.relation.specs.Sets.{has, empty, union_of}
+use Rattle.lanes.specs.Lists.{list_of}
 
--- the fields as a list
-abbrev pub words_of : Eight → List ℕ
-words_of w = w.0 ∷ w.1 ∷ w.2 ∷ w.3 ∷ w.4 ∷ w.5 ∷ w.6 ∷ w.7 ∷ []
-
--- the first eight words of a list as fields
-abbrev pub fields_of : List ℕ → Eight
-fields_of w = (get_or w 0 0, get_or w 1 0, get_or w 2 0, get_or w 3 0, get_or w 4 0, get_or w 5 0, get_or w 6 0, get_or w 7 0)
+-- word r is the union of the words q for which entry q of the row has r
+unfoldable pub wired_by : List ℕ → List ℕ → List ℕ
+wired_by row words = list_of 8 (λ r. union_of 8 (λ q. cond (has (get_or row q 0) r) (get_or words q 0) empty))
