@@ -39,7 +39,7 @@ pub(crate) fn everywhere(w: [u64; 8], k: usize) -> [u64; 8]
     requires { k < 64 }
     ensures { result ≡ spread w k }
 {
-    w.map(|word| ((word >> k) % 2) * u64::MAX)
+    array::from_fn(|r| ((w[r] >> k) % 2) * u64::MAX)
 }
 
 // The lanes whose set has a member.
