@@ -7,7 +7,7 @@ use native.Mathlib.Omega.{arith}
 use lib.ListN.{length, get_or}
 use Rattle.region.specs.Lookup.{identifier}
 use Rattle.region.specs.declared.Place.{Place}
-use Rattle.region.specs.declared.Found.{Found}
+use Rattle.std.specs.Prelude.{Option}
 use Rattle.lists.specs.BigEndian.{number_at}
 use Rattle.filing.specs.Said.{Said}
 use Rattle.filing.specs.Places.{place_of}
@@ -36,7 +36,7 @@ module _ {scene other : List ℕ} where
   whole_same {at} {kind} a w =
       record { fits = a.there; kind_is = sym (a.same at (omega (arith, some-length kind))) ∙ w.kind_is }
 
-  looks_same : {said : Said} {from : ℕ} {found : Found} → number_at scene from ≡ number_at other from
+  looks_same : {said : Said} {from : ℕ} {found : Option Place} → number_at scene from ≡ number_at other from
       → Looks scene said from found → Looks other said from found
   looks_same {said} {from} {found} e l =
       record { finds = subst (λ (x : ℕ). place_of said (identifier x) ≡ found) e l.finds }

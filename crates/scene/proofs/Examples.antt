@@ -2,8 +2,7 @@
 use mathlib.Core.Path.{◌≡◌, refl}
 use mathlib.Core.List.{List, [], ◌∷◌, ◌++◌}
 use Prim.Native.Nat.{ℕ}
-use Rattle.lists.specs.Least.{least_from, least}
-use Rattle.region.specs.Lookup.{first_holding, lookup_of}
+use Rattle.region.specs.Lookup.{lookup_of}
 use Rattle.lists.specs.Tabled.{tabled}
 use Rattle.matrix.specs.Cells.{grid}
 use Rattle.filing.specs.Said.{Said}
@@ -29,7 +28,7 @@ example_says =
 
 pub example_accepted : read_scene (example 4) ≡ accepted_said example_says
 unfolding read_scene read_from record_at judged_region judged_statement judged_end length_of place_of lookup_of
-    first_holding least least_from example example_says
+    example example_says
 example_accepted = refl
 
 pub example_cells_lem : cells_of starting_cell example_says ≡ 255 ∷ 8 ∷ 255 ∷ 255 ∷ 255 ∷ 8 ∷ 255 ∷ 255 ∷ 255 ∷ []
@@ -39,5 +38,5 @@ example_cells_lem = refl
 -- with the third identifier 9 as well, 9 is declared twice
 pub example_twice : read_scene (example 9) ≡ refused_at 7 10
 unfolding read_scene read_from record_at judged_region judged_statement judged_end length_of place_of lookup_of
-    first_holding least least_from example
+    example
 example_twice = refl

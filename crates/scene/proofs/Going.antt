@@ -4,6 +4,7 @@ use mathlib.Core.List.{List, [], ◌∷◌}
 use Prim.Native.Nat.{ℕ, ◌+◌, ◌*◌, ◌≤◌, ◌<◌}
 use native.Mathlib.Omega.{arith}
 use lib.ListN.{length, take, set, length-append}
+use Rattle.std.specs.Prelude.{Result, Ok, Err}
 use Rattle.region.specs.declared.Identifier.{Identifier}
 use Rattle.region.specs.declared.Place.{Place}
 use Rattle.relation.specs.Sets.{universal}
@@ -12,16 +13,15 @@ use Rattle.matrix.specs.Square.{most_regions}
 use Rattle.filing.specs.Said.{Said, regions, naming, silent, declared, statement as made, stated}
 use Rattle.filing.specs.Areas.{Areas, holding, Lent, started, filed_in, marked_in}
 use Rattle.filing.proofs.PlaceLaws.{place_found}
-use Rattle.filing.proofs.Held.{Held, held_begins, held_lent, held_front, held_declared, held_stated}
-use Rattle.scene.specs.Format.{most_bytes}
+use Rattle.filing.proofs.Held.{Held, held_begins, held_front, held_declared, held_stated}
 use Rattle.scene.specs.Record.{record_at}
 use Rattle.scene.specs.Reading.{accepted_said, refused_at, records}
 use Rattle.scene.specs.Numbers.{number_of}
 use Rattle.scene.specs.Reads.{starting_cell}
 use Rattle.scene.specs.Reached.{Reached, start, region, statement}
 use Rattle.scene.specs.Inner.{judged_of}
-use Rattle.scene.specs.declared.Refusal.{Refusal}
 use Rattle.scene.specs.declared.record.Record.{Record}
+use Rattle.scene.specs.declared.record.Refused.{Refused}
 use Rattle.scene.specs.declared.record.Record.TheVariants as recorded
 use Rattle.scene.proofs.Reasons.{Declares, States, region_length, statement-length, declares_why, states_why, record_named}
 use Rattle.scene.proofs.Reached.{at_end, at_refusal, ended_so, reached_far}
@@ -33,11 +33,6 @@ pub record Going (scene identifiers cells marks : List ℕ) (at count statements
   pub counted : count ≡ regions said
   pub numbered : statements ≡ length said.statements
   pub held : Held starting_cell said (holding identifiers cells marks)
-
--- a record of so many bytes ends within the scene, and the scene within the limit
-pub record EndsWithin (scene : List ℕ) (at bytes : ℕ) : Type 0 where
-  pub within : at + bytes ≤ length scene
-  pub short : length scene ≤ most_bytes
 
 -- nothing is said yet
 pub going_begins : {before : Areas} (scene identifiers cells marks : List ℕ) → Lent before
@@ -51,25 +46,19 @@ going_begins scene identifiers cells marks lent e = record {
 }
 
 module _ {scene identifiers cells marks : List ℕ} {at count statements : ℕ} (w : Going scene identifiers cells marks at count statements) where
-  pub going_count : count ≤ most_regions
-  going_count = omega (arith, w.counted, w.held.few)
-
   -- a statement has ten bytes
   pub going_passed : 10 * statements ≤ at
   going_passed = omega (arith, reached_far scene w.reached, w.numbered)
 
-  pub going_lent : Lent (holding identifiers cells marks)
-  going_lent = held_lent w.held
-
   -- the entries that the code judges by are the identifiers said so far, so its judgement is theirs
-  module _ {r : Record} (judged : judged_of r ≡ record_at scene (naming (take count identifiers)) at) where
-    known_as : {q : Record} → r ≡ q → record_at scene w.said at ≡ judged_of q
+  module _ {r : Result Record Refused} (judged : judged_of r ≡ record_at scene (naming (take count identifiers)) at) where
+    known_as : {q : Result Record Refused} → r ≡ q → record_at scene w.said at ≡ judged_of q
     known_as d =
         let front : take count identifiers ≡ w.said.identifiers = rw w.counted (held_front w.held) in
         sym (sym (ap judged_of d) ∙ judged ∙ ap (λ (l : List ℕ). record_at scene (naming l) at) front ∙ record_named scene w.said at)
 
     -- a region record
-    module _ {name : Identifier} (d : r ≡ recorded.Region name) where
+    module _ {name : Identifier} (d : r ≡ Ok (recorded.Region name)) where
       declares_so : Declares scene w.said at name.0
       declares_so = declares_why scene w.said at (known_as d)
 
@@ -88,7 +77,7 @@ module _ {scene identifiers cells marks : List ℕ} {at count statements : ℕ} 
           }
 
     -- a statement record
-    module _ {a b : Place} {added : RelationSet} (d : r ≡ recorded.Statement a b added) where
+    module _ {a b : Place} {added : RelationSet} (d : r ≡ Ok (recorded.Statement a b added)) where
       states_so : States scene w.said at a b added.0
       states_so = states_why scene w.said at (known_as d)
 
@@ -114,10 +103,9 @@ module _ {scene identifiers cells marks : List ℕ} {at count statements : ℕ} 
           }
 
     -- the end, and a refusal
-    pub going_ends : r ≡ recorded.End → records scene ≡ accepted_said w.said
+    pub going_ends : r ≡ Ok recorded.End → records scene ≡ accepted_said w.said
     going_ends d = ended_so scene (at_end at w.said w.reached (known_as d))
 
-    pub going_refused : {refusal : Refusal} {offset : ℕ} → r ≡ recorded.Refused refusal offset
-        → records scene ≡ refused_at (number_of refusal) offset
-    going_refused {refusal} {offset} d =
-        ended_so scene (at_refusal at w.said (number_of refusal) offset w.reached (known_as d))
+    pub going_refused : {refused : Refused} → r ≡ Err refused → records scene ≡ refused_at (number_of refused.refusal) refused.offset
+    going_refused {refused} d =
+        ended_so scene (at_refusal at w.said (number_of refused.refusal) refused.offset w.reached (known_as d))

@@ -1,7 +1,6 @@
--- one record: its number, why it is judged as it is, and that the code judges so
+-- one record: its number, and why it is judged as it is
 pub mod Numbered
 pub mod Reasons
-pub mod Judging
 -- all records: how far they come, and how a reading ends
 pub mod Reached
 pub mod Endings

@@ -9,8 +9,7 @@ use lib.ListN.{length, get_or}
 use borrow.Author.Tests.{lt-ltb, le-ltb, lt-leb, le-leb, eq-eqb, ne_eqb}
 use Rattle.region.specs.Lookup.{identifier}
 use Rattle.region.specs.declared.Place.{Place}
-use Rattle.region.specs.declared.Found.{Found}
-use Rattle.region.specs.declared.Found.TheVariants.{At, Nothing}
+use Rattle.std.specs.Prelude.{Option, Some, None}
 use Rattle.lists.proofs.Splits.{split_lt, split_eq}
 use Rattle.lists.specs.BigEndian.{number_at}
 use Rattle.matrix.specs.Square.{most_regions}
@@ -30,20 +29,20 @@ pub record Begins (scene : List ℕ) (at kind : ℕ) : Type 0 where
   pub kind_is : get_or scene at 0 ≡ kind
 
 -- which place an identifier that stands in the scene names
-pub record Looks (scene : List ℕ) (said : Said) (at : ℕ) (found : Found) : Type 0 where
+pub record Looks (scene : List ℕ) (said : Said) (at : ℕ) (found : Option Place) : Type 0 where
   pub finds : place_of said (identifier (number_at scene at)) ≡ found
 
 -- a record that declares a region
 pub record Declares (scene : List ℕ) (said : Said) (at name : ℕ) : Type 0 where
   pub region : Region scene at name
-  pub new : Looks scene said (at + 1) Nothing
+  pub new : Looks scene said (at + 1) None
   pub room : regions said < most_regions
 
 -- a record that states a set
 pub record States (scene : List ℕ) (said : Said) (at : ℕ) (a b : Place) (set : ℕ) : Type 0 where
   pub whole : Whole scene at statement_kind
-  pub from_is : Looks scene said (at + 1) (At a)
-  pub to_is : Looks scene said (at + 5) (At b)
+  pub from_is : Looks scene said (at + 1) (Some a)
+  pub to_is : Looks scene said (at + 5) (Some b)
   pub set_is : get_or scene (at + 9) 0 ≡ set
   pub set_not_empty : set ≡ 0 → ⊥
 
@@ -59,17 +58,17 @@ pub data Reason (scene : List ℕ) (said : Said) (at : ℕ) : Judged → Type 0 
       → (get_or scene at 0 ≡ end_kind → ⊥) → Reason scene said at (fails 5 at)
   region_cut : Begins scene at region_kind → length scene < at + length_of region_kind → Reason scene said at (fails 4 at)
   zero_declared : Whole scene at region_kind → number_at scene (at + 1) ≡ 0 → Reason scene said at (fails 6 at)
-  declared_twice : (name : ℕ) (p : Place) → Region scene at name → Looks scene said (at + 1) (At p)
+  declared_twice : (name : ℕ) (p : Place) → Region scene at name → Looks scene said (at + 1) (Some p)
       → Reason scene said at (fails 7 at)
-  too_many : (name : ℕ) → Region scene at name → Looks scene said (at + 1) Nothing → most_regions ≤ regions said
+  too_many : (name : ℕ) → Region scene at name → Looks scene said (at + 1) None → most_regions ≤ regions said
       → Reason scene said at (fails 8 at)
   new_region : (name : ℕ) → Declares scene said at name → Reason scene said at (declares name)
   statement_cut : Begins scene at statement_kind → length scene < at + length_of statement_kind → Reason scene said at (fails 4 at)
-  from_undeclared : Whole scene at statement_kind → Looks scene said (at + 1) Nothing → Reason scene said at (fails 9 at)
-  to_undeclared : (a : Place) → Whole scene at statement_kind → Looks scene said (at + 1) (At a)
-      → Looks scene said (at + 5) Nothing → Reason scene said at (fails 9 at)
-  empty-set : (a b : Place) → Whole scene at statement_kind → Looks scene said (at + 1) (At a)
-      → Looks scene said (at + 5) (At b) → get_or scene (at + 9) 0 ≡ 0 → Reason scene said at (fails 10 at)
+  from_undeclared : Whole scene at statement_kind → Looks scene said (at + 1) None → Reason scene said at (fails 9 at)
+  to_undeclared : (a : Place) → Whole scene at statement_kind → Looks scene said (at + 1) (Some a)
+      → Looks scene said (at + 5) None → Reason scene said at (fails 9 at)
+  empty-set : (a b : Place) → Whole scene at statement_kind → Looks scene said (at + 1) (Some a)
+      → Looks scene said (at + 5) (Some b) → get_or scene (at + 9) 0 ≡ 0 → Reason scene said at (fails 10 at)
   statement : (a b : Place) (set : ℕ) → States scene said at a b set → Reason scene said at (states a b set)
   no_region : Whole scene at end_kind → regions said ≡ 0 → Reason scene said at (fails 1 at)
   bytes_left : Whole scene at end_kind → (regions said ≡ 0 → ⊥) → at + 1 < length scene
@@ -172,7 +171,7 @@ module _ (scene : List ℕ) (said : Said) (at : ℕ) where
   met r = subst (λ (k : Judged). Reason scene said at k) (sym (decides r)) r
 
   -- an identifier that stands in the scene names a place, or none
-  pub by_lookup : {C : Type 0} (from : ℕ) → ((p : Place) → Looks scene said from (At p) → C) → (Looks scene said from Nothing → C) → C
+  pub by_lookup : {C : Type 0} (from : ℕ) → ((p : Place) → Looks scene said from (Some p) → C) → (Looks scene said from None → C) → C
   by_lookup from f g =
       by_place said (identifier (number_at scene from)) (λ p e. f p (record { finds = e })) (λ e. g (record { finds = e }))
 

@@ -1,4 +1,4 @@
--- No second answer meets the contracts of `Refusal::number`, `read`, `refused_record` and `of_reading`.
+-- No second answer meets the contracts of `Refusal::number`, `Kind::try_from`, `read`, `refused_record` and `of_reading`.
 use mathlib.Core.Path.{◌≡◌, refl, sym, ap, ◌∙◌}
 use Prim.Native.Nat.{ℕ}
 use mathlib.Core.List.{[], ◌∷◌}
@@ -18,6 +18,8 @@ use Rattle.scene.specs.declared.Refusal.TheVariants.{NoRegion, CutShort, Unknown
 use Rattle.scene.specs.declared.Refusal.TheVariants.{TooManyRegions, NotDeclared, EmptySet, BytesLeft}
 use Rattle.scene.proofs.Refusal.number.Kinds as number-kinds
 use Rattle.scene.proofs.Refusal.number.Reads as number-reads
+use Rattle.scene.proofs.format.KindTryFromU8.try_from.Kinds as kind-kinds
+use Rattle.scene.proofs.format.KindTryFromU8.try_from.Reads as kind-reads
 use Rattle.scene.proofs.read.Kinds as read-kinds
 use Rattle.scene.proofs.read.Reads as read-reads
 use Rattle.scene.proofs.refused_record.Kinds as part-kinds
@@ -29,6 +31,11 @@ pub number_unique : (κs : Lfts 0) (a : Dens κs number-kinds.ps) (r r' : (res_t
     (s s' : AtExit (ended_of 0 number-kinds.ps number-kinds.r) κs)
     → number-reads.Post κs a r s → number-reads.Post κs a r' s' → r ≡ r'
 number_unique κs a r r' s s' p q = p ∙ sym q
+
+pub kind_unique : (κs : Lfts 0) (a : Dens κs kind-kinds.ps) (r r' : (res_t kind-kinds.r κs).Denot)
+    (s s' : AtExit (ended_of 0 kind-kinds.ps kind-kinds.r) κs)
+    → kind-reads.Post κs a r s → kind-reads.Post κs a r' s' → r ≡ r'
+kind_unique κs a r r' s s' p q = p ∙ sym q
 
 pub refused_record_unique : (κs : Lfts 1) (a : Dens κs part-kinds.ps) (r r' : (res_t part-kinds.r κs).Denot)
     (s s' : AtExit (ended_of 1 part-kinds.ps part-kinds.r) κs)

@@ -1,4 +1,5 @@
 pub mod Format
+pub mod Kinds
 pub mod Record
 pub mod Reading
 pub mod Numbers

@@ -1,9 +1,7 @@
 -- A record of a scene, judged against what was said before it.
-use Rattle.std.specs.Prelude.{ℕ, ◌+◌, ◌-◌, cond, List, length, get_or, leb, ltb, eqb}
+use Rattle.std.specs.Prelude.{ℕ, ◌+◌, ◌-◌, cond, List, Option, Some, None, length, get_or, leb, ltb, eqb}
 use Rattle.lists.specs.BigEndian.{number_at}
 use Rattle.region.specs.declared.Place.{Place}
-use Rattle.region.specs.declared.Found.{Found}
-use Rattle.region.specs.declared.Found.TheVariants.{At, Nothing}
 use Rattle.region.specs.Lookup.{identifier}
 use Rattle.matrix.specs.Square.{most_regions}
 use Rattle.filing.specs.Said.{Said, regions}
@@ -19,9 +17,9 @@ pub data Judged : Type 0 where
   fails : ℕ → ℕ → Judged
 
 -- the place that was found, and else a failure
-abbrev pub at_place : Found → (Place → Judged) → Judged → Judged
-at_place (At p) f missing = f p
-at_place Nothing f missing = missing
+abbrev pub at_place : Option Place → (Place → Judged) → Judged → Judged
+at_place (Some p) f missing = f p
+at_place None f missing = missing
 
 -- region: short body 4, identifier 0 6, declared twice 7, the 65th 8
 unfoldable pub judged_region : List ℕ → Said → ℕ → Judged

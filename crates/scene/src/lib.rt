@@ -15,7 +15,6 @@ ghost use Rattle.scene.specs.Reads.{Reads};
 ghost use Rattle.scene.specs.Span.{RefusedPart};
 
 use filing::{LENT_CELLS, LENT_IDENTIFIERS};
-use format::MOST_BYTES;
 use records::read_records;
 use span::span_of;
 
@@ -34,7 +33,7 @@ pub enum Refusal {
 }
 
 impl Refusal {
-    // Document 01's number.
+    // Document 01's number. A `match`, since no two discriminants may be equal, as must-fail/nine_for_ten makes two numbers.
     pub fn number(self) -> u32
         ensures { result ≡ number_of self }
     {
@@ -65,7 +64,6 @@ pub enum Unread {
 
 // Reads a scene of n regions into 64 identifiers and 4,096 cells with a mark for each: the first n identifiers, and cells and marks in
 // rows of n. A mark is the number of the last statement that removed a relation from the cell.
-#[tactic(auto, unfolding(crate::specs::Reading::read_of, crate::specs::Reading::read_scene, crate::specs::Reads::areas_after))]
 pub fn read(
     scene: &[u8],
     identifiers: &mut [u32],
@@ -78,11 +76,11 @@ pub fn read(
     if !filing::are_lent(identifiers, cells, marks) {
         return Err(Unread::WrongLength);
     }
-    if MOST_BYTES < scene.len() {
+    let reading = read_records(scene, identifiers, cells, marks);
+    if reading.is_err() {
         filing::clear(identifiers, cells, marks);
-        return Err(Unread::TooLong);
     }
-    read_records(scene, identifiers, cells, marks)
+    reading
 }
 
 // The refused record's own bytes, as a part of the scene: its full length or what remains of it, one byte for an unknown kind,

@@ -1,113 +1,150 @@
 // One record of a scene, judged against what was said before it.
-ghost use Rattle.std.specs.Prelude.{◌≡◌, ◌≤◌, length, take};
+ghost use Rattle.std.specs.Prelude.{◌≡◌, ◌<◌, length, ok_or};
 ghost use Rattle.lists.specs.BigEndian.{number_at};
 ghost use Rattle.region.specs.Lookup.{identifier};
 ghost use Rattle.filing.specs.Said.{naming};
 ghost use Rattle.filing.specs.Places.{place_of};
 ghost use Rattle.scene.specs.Record.{judged_region, judged_statement, judged_end, record_at};
-ghost use Rattle.scene.specs.Inner.{Begun, judged_of};
+ghost use Rattle.scene.specs.Inner.{judged_of, unread_of};
 
-use crate::Refusal;
-use crate::format::{END, REGION, REGION_BYTES, STATEMENT, STATEMENT_BYTES};
+use crate::format::{Kind, REGION_BYTES, STATEMENT_BYTES};
+use crate::{Refusal, Unread};
 use filing::place_of;
 use lists::number_at;
 use matrix::MOST_REGIONS;
-use region::{Found, Identifier, Place};
+use region::{Identifier, Place};
 use relation::RelationSet;
 
-// What a record says, or why and where it is refused.
+// What a record says.
 #[derive(Clone, Copy)]
 pub(crate) enum Record {
     Region(Identifier),
     Statement(Place, Place, RelationSet),
     End,
-    Refused(Refusal, usize),
 }
 
-// Behind the kind stands the identifier.
-#[tactic(auto, unfolding(crate::specs::Record::judged_region, crate::specs::Format::length_of))]
-fn region_at(scene: &[u8], identifiers: &[u32], count: usize, at: usize) -> Record
-    requires { Begun scene.now identifiers.now count at }
-    ensures { judged_of result ≡ judged_region scene.now (naming (take count identifiers.now)) at }
-{
-    if scene.len() - at < REGION_BYTES {
-        return Record::Refused(Refusal::CutShort, at);
+// Why a record is refused, and at which byte of the scene.
+#[derive(Clone, Copy)]
+pub(crate) struct Refused {
+    pub(crate) refusal: Refusal,
+    pub(crate) offset: usize,
+}
+
+impl From<Refused> for Unread {
+    ghost from_gives = { λ refused reading. reading ≡ unread_of refused };
+
+    fn from(refused: Refused) -> Unread {
+        Unread::Refused(refused.refusal, refused.offset)
     }
-    let number = number_at(scene, at + 1);
-    if number == 0 {
-        return Record::Refused(Refusal::IdentifierZero, at);
-    }
-    match place_of(identifiers, count, Identifier(number)) {
-        Found::At(_) => Record::Refused(Refusal::DeclaredTwice, at),
-        Found::Nothing => {
-            if MOST_REGIONS <= count {
-                Record::Refused(Refusal::TooManyRegions, at)
-            } else {
-                Record::Region(Identifier(number))
-            }
+}
+
+// A record that begins in a scene, after these identifiers were declared.
+#[derive(Clone, Copy)]
+struct Begun<'a> {
+    scene: &'a [u8],
+    declared: &'a [u32],
+    at: usize,
+    ghost within: { at < length scene.now },
+}
+
+impl Begun<'_> {
+    // A refusal that names the record's first byte.
+    fn refused(&self, refusal: Refusal) -> Refused
+        ensures { result ≡ record { refusal = refusal; offset = self.now.at } }
+    {
+        Refused {
+            refusal,
+            offset: self.at,
         }
     }
-}
 
-// The place that the identifier at an offset names.
-fn place_at(scene: &[u8], identifiers: &[u32], count: usize, at: usize) -> Found
-    ensures { result ≡ place_of (naming (take count identifiers.now)) (identifier (number_at scene.now at)) }
-{
-    place_of(identifiers, count, Identifier(number_at(scene, at)))
-}
+    // The place that the identifier at an offset names.
+    fn place_at(&self, offset: usize) -> Result<Place, Refused>
+        ensures { result ≡ ok_or (place_of (naming self.now.declared.now) (identifier (number_at self.now.scene.now offset)))
+            (record { refusal = Refusal.NotDeclared; offset = self.now.at }) }
+    {
+        let identifier = Identifier(number_at(self.scene, offset));
+        place_of(self.declared, self.declared.len(), identifier).ok_or(self.refused(
+            Refusal::NotDeclared,
+        ))
+    }
 
-// Behind the kind stand identifier A, identifier B and the set; the places that they name are found, A first.
-fn statement_at(scene: &[u8], identifiers: &[u32], count: usize, at: usize) -> Record
-    requires { Begun scene.now identifiers.now count at }
-    ensures { judged_of result ≡ judged_statement scene.now (naming (take count identifiers.now)) at }
-{
-    if scene.len() - at < STATEMENT_BYTES {
-        return Record::Refused(Refusal::CutShort, at);
+    // Behind the kind stands the identifier.
+    #[tactic(auto, unfolding(crate::specs::Record::judged_region, crate::specs::Format::length_of))]
+    fn region(&self) -> Result<Record, Refused>
+        ensures { judged_of result ≡ judged_region self.now.scene.now (naming self.now.declared.now) self.now.at }
+    {
+        if self.scene.len() - self.at < REGION_BYTES {
+            return Err(self.refused(Refusal::CutShort));
+        }
+        let identifier = Identifier(number_at(self.scene, self.at + 1));
+        if identifier.0 == 0 {
+            return Err(self.refused(Refusal::IdentifierZero));
+        }
+        if place_of(self.declared, self.declared.len(), identifier).is_some() {
+            return Err(self.refused(Refusal::DeclaredTwice));
+        }
+        if MOST_REGIONS <= self.declared.len() {
+            return Err(self.refused(Refusal::TooManyRegions));
+        }
+        Ok(Record::Region(identifier))
     }
-    let Found::At(from) = place_at(scene, identifiers, count, at + 1) else {
-        return Record::Refused(Refusal::NotDeclared, at);
-    };
-    let Found::At(to) = place_at(scene, identifiers, count, at + 5) else {
-        return Record::Refused(Refusal::NotDeclared, at);
-    };
-    let set = scene[at + 9];
-    if set == 0 {
-        return Record::Refused(Refusal::EmptySet, at);
-    }
-    Record::Statement(from, to, RelationSet(set))
-}
 
-// Nothing stands behind the kind, and nothing may.
-fn end_at(scene: &[u8], identifiers: &[u32], count: usize, at: usize) -> Record
-    requires { Begun scene.now identifiers.now count at }
-    ensures { judged_of result ≡ judged_end scene.now (naming (take count identifiers.now)) at }
-{
-    if count == 0 {
-        return Record::Refused(Refusal::NoRegion, at);
+    // Behind the kind stand identifier A, identifier B and the set; the places that they name are found, A first.
+    #[tactic(auto, unfolding(crate::specs::Record::judged_statement, crate::specs::Format::length_of))]
+    fn statement(&self) -> Result<Record, Refused>
+        ensures { judged_of result ≡ judged_statement self.now.scene.now (naming self.now.declared.now) self.now.at }
+    {
+        if self.scene.len() - self.at < STATEMENT_BYTES {
+            return Err(self.refused(Refusal::CutShort));
+        }
+        let from = self.place_at(self.at + 1)?;
+        let to = self.place_at(self.at + 5)?;
+        let set = RelationSet(self.scene[self.at + 9]);
+        if set.is_empty() {
+            return Err(self.refused(Refusal::EmptySet));
+        }
+        Ok(Record::Statement(from, to, set))
     }
-    if at + 1 < scene.len() {
-        return Record::Refused(Refusal::BytesLeft, at + 1);
+
+    // Nothing stands behind the kind, and nothing may.
+    #[tactic(auto, unfolding(crate::specs::Record::judged_end))]
+    fn end(&self) -> Result<Record, Refused>
+        ensures { judged_of result ≡ judged_end self.now.scene.now (naming self.now.declared.now) self.now.at }
+    {
+        if self.declared.is_empty() {
+            return Err(self.refused(Refusal::NoRegion));
+        }
+        if self.at + 1 < self.scene.len() {
+            return Err(Refused {
+                refusal: Refusal::BytesLeft,
+                offset: self.at + 1,
+            });
+        }
+        Ok(Record::End)
     }
-    Record::End
 }
 
 // The record at an offset: the end of the bytes, then the kind, then what the kind asks.
-pub(crate) fn record_at(scene: &[u8], identifiers: &[u32], count: usize, at: usize) -> Record
-    requires { count ≤ length identifiers.now }
-    ensures { judged_of result ≡ record_at scene.now (naming (take count identifiers.now)) at }
+#[tactic(auto, unfolding(crate::specs::Record::record_at))]
+pub(crate) fn record_at(scene: &[u8], declared: &[u32], at: usize) -> Result<Record, Refused>
+    ensures { judged_of result ≡ record_at scene.now (naming declared.now) at }
 {
-    if scene.len() <= at {
-        return Record::Refused(Refusal::CutShort, scene.len());
+    let Some(byte) = scene.get(at) else {
+        return Err(Refused {
+            refusal: Refusal::CutShort,
+            offset: scene.len(),
+        });
+    };
+    let begun = Begun {
+        scene,
+        declared,
+        at,
+    };
+    match Kind::try_from(*byte) {
+        Ok(Kind::Region) => begun.region(),
+        Ok(Kind::Statement) => begun.statement(),
+        Ok(Kind::End) => begun.end(),
+        Err(refusal) => Err(begun.refused(refusal)),
     }
-    let kind = scene[at];
-    if kind == REGION {
-        return region_at(scene, identifiers, count, at);
-    }
-    if kind == STATEMENT {
-        return statement_at(scene, identifiers, count, at);
-    }
-    if kind == END {
-        return end_at(scene, identifiers, count, at);
-    }
-    Record::Refused(Refusal::UnknownKind, at)
 }

@@ -1,10 +1,9 @@
 // The records of a scene, one after the other, into areas of the right lengths.
-ghost use Rattle.filing.specs.Areas.{holding};
-ghost use Rattle.scene.specs.Reads.{Reads};
-ghost use Rattle.scene.specs.Inner.{Readable};
+ghost use Rattle.filing.specs.Areas.{holding, Lent};
+ghost use Rattle.scene.specs.Inner.{ReadInto};
 
 use crate::Unread;
-use crate::format::{REGION_BYTES, STATEMENT_BYTES};
+use crate::format::{MOST_BYTES, REGION_BYTES, STATEMENT_BYTES};
 use crate::record::{Record, record_at};
 use region::Place;
 use relation::RelationSet;
@@ -16,16 +15,21 @@ pub(crate) fn read_records(
     cells: &mut [u8],
     marks: &mut [u16],
 ) -> Result<usize, Unread>
-    requires { Readable scene.now (holding identifiers.old cells.old marks.old) }
-    ensures { Reads scene.now (holding identifiers.old cells.old marks.old)
+    requires { Lent (holding identifiers.old cells.old marks.old) }
+    ensures { ReadInto scene.now (holding identifiers.old cells.old marks.old)
         (holding identifiers.new cells.new marks.new) result }
 {
+    if MOST_BYTES < scene.len() {
+        return Err(Unread::TooLong);
+    }
     filing::begin(identifiers, cells, marks, RelationSet::UNIVERSAL);
     let mut at: usize = 0;
+    // How much of the lent area is filled: the library has no heap for a list that grows.
     let mut count: usize = 0;
     let mut statements: u16 = 0;
+    // A `loop`: an iterator over the records would borrow the identifiers, which each record is judged by and the body writes.
     loop {
-        match record_at(scene, identifiers, count, at) {
+        match record_at(scene, &identifiers[..count], at)? {
             Record::Region(identifier) => {
                 filing::put_region(identifiers, Place(count), identifier);
                 count += 1;
@@ -38,13 +42,9 @@ pub(crate) fn read_records(
                 at += STATEMENT_BYTES;
             }
             Record::End => {
-                filing::pack(cells, count);
-                filing::pack_marks(marks, count);
+                filing::pack(cells, count, 0);
+                filing::pack(marks, count, 0);
                 return Ok(count);
-            }
-            Record::Refused(refusal, offset) => {
-                filing::clear(identifiers, cells, marks);
-                return Err(Unread::Refused(refusal, offset));
             }
         }
     }

@@ -5,22 +5,16 @@ ghost use Rattle.scene.specs.Numbers.{number_of};
 ghost use Rattle.scene.specs.Reading.{refused_at};
 ghost use Rattle.scene.specs.Inner.{Spans, ending_of};
 
-use crate::format::{REGION, REGION_BYTES, STATEMENT, STATEMENT_BYTES};
+use crate::format::Kind;
 use crate::{Refusal, Unread};
 use std::ops::Range;
 
-// How many bytes a record of a kind has; of an unknown kind that byte alone counts.
+// How many bytes a record has whose kind's byte this is; of an unknown kind that byte alone counts.
 #[tactic(auto, unfolding(crate::specs::Format::length_of))]
-fn record_length(kind: u8) -> usize
-    ensures { result ≡ length_of kind }
+fn record_length(byte: u8) -> usize
+    ensures { result ≡ length_of byte }
 {
-    if kind == REGION {
-        return REGION_BYTES;
-    }
-    if kind == STATEMENT {
-        return STATEMENT_BYTES;
-    }
-    1
+    Kind::try_from(byte).map_or(1, |kind| kind.length())
 }
 
 // The bytes of a record that is refused at an offset: its full length or what remains of it, and everything left for 11.
@@ -28,14 +22,13 @@ fn record_length(kind: u8) -> usize
 fn refused_span(scene: &[u8], refusal: Refusal, offset: usize) -> Range<usize>
     ensures { Spans scene.now (refused_at (number_of refusal) offset) result }
 {
-    if scene.len() <= offset {
+    let Some(byte) = scene.get(offset) else {
         return 0..0;
-    }
+    };
     if refusal == Refusal::BytesLeft {
         return offset..scene.len();
     }
-    let left = scene.len() - offset;
-    offset..offset + left.min(record_length(scene[offset]))
+    offset..offset + record_length(*byte).min(scene.len() - offset)
 }
 
 // The bytes of the refused record after a reading; none where no record is refused.
