@@ -3,7 +3,7 @@ use mathlib.Core.Path.{◌≡◌, refl}
 use mathlib.Core.List.{List, [], ◌∷◌}
 use Prim.Native.Nat.{ℕ}
 use Rattle.lists.specs.Least.{least, least_from}
-use Rattle.region.specs.Lookup.{first_holding, lookup_of}
+use Rattle.region.specs.Lookup.{lookup_of}
 use Rattle.matrix.specs.Square.{in_range, has_square}
 use Rattle.matrix.specs.Cells.{first_empty}
 use Rattle.filing.specs.Places.{place_of}
@@ -29,5 +29,5 @@ pub examples : (write_of 3 (7 ∷ 9 ∷ 4 ∷ []) example_cells 36 ≡ written e
     × (write_of 2 (7 ∷ 9 ∷ []) (255 ∷ 8 ∷ 0 ∷ 0 ∷ []) 36 ≡ refused_cell 10 1 0)
     × (write_of 3 (7 ∷ 9 ∷ []) example_cells 36 ≡ refused_with 2)
     × (write_of 0 [] [] 36 ≡ refused_with 1)
-unfolding write_of checked in_range has_square first_bad first_empty place_of lookup_of first_holding least least_from scene_of region_records statement_records
+unfolding write_of checked in_range has_square first_bad first_empty place_of lookup_of least least_from scene_of region_records statement_records
 examples = (refl, refl, refl, refl, refl, refl, refl)

@@ -1,5 +1,6 @@
 -- the bytes of a scene, and which identifiers may stand in it
 pub mod SceneLaws
+pub mod Search
 pub mod CheckLaws
 -- putting the bytes, and how a write ends
 pub mod PutLaws

@@ -13,7 +13,8 @@ use Rattle.lists.specs.BigEndian.{big_endian, number_put}
 use Rattle.lists.proofs.BigEndianLaws.{put_fits}
 use Rattle.scene.specs.Format.{end_kind, region_record, statement_record}
 use Rattle.writer.specs.Scene.{region_records, cell_record, statement_records, scene_of}
-use Rattle.writer.specs.Inner.{SceneRoom, Room, Put}
+use Rattle.writer.specs.Inner.{Put}
+use Rattle.writer.specs.Writable.{Sized}
 use Rattle.writer.proofs.SceneLaws.{length-regions, length-statements, length_scene, regions_more}
 use Rattle.writer.proofs.SceneLaws.{statements-same, statements_more, counted_more, counted_grows}
 
@@ -89,39 +90,36 @@ module _ (n : ℕ) (identifiers cells before : List ℕ) (start : ℕ) where
 
 -- ---- room
 
-module _ (n : ℕ) (identifiers cells buffer : List ℕ) (start : ℕ) (room : Room n identifiers cells buffer start) (p : ℕ)
-    (inside : p < length cells) where
-  -- a cell that is stated has room for its record behind those before it
-  pub statement-room : (get_or cells p 0 ≡ universal → ⊥) → start + length (statement_records p n identifiers cells) + 10 ≤ length buffer
-  statement-room e =
+module _ (n : ℕ) (identifiers cells : List ℕ) (sized : Sized n identifiers cells) (p : ℕ) (inside : p < length cells) where
+  -- a cell that is stated takes the room of its record behind those before it
+  pub statement_room : (get_or cells p 0 ≡ universal → ⊥)
+      → length (statement_records p n identifiers cells) + 10 ≤ length (statement_records (n * n) n identifiers cells)
+  statement_room e =
       omega (
         arith,
-        room.fits,
         length-statements n identifiers cells p,
         length-statements n identifiers cells (n * n),
         counted_more cells p e,
-        counted_grows cells (p + 1) (n * n) (omega (arith, room.sized.square.size)),
+        counted_grows cells (p + 1) (n * n) (omega (arith, sized.square.size)),
       )
 
 -- ---- the whole scene
 
-module _ (n : ℕ) (identifiers cells buffer : List ℕ) (room : SceneRoom n identifiers cells buffer) where
-  pub regions_fit : 5 * length identifiers ≤ length buffer
-  regions_fit = omega (arith, room.fits, length_scene n identifiers cells)
-
-  pub statements_fit : 5 * n + length (statement_records (n * n) n identifiers cells) < length buffer
-  statements_fit =
-      omega (arith, room.fits, length_scene n identifiers cells, length-statements n identifiers cells (n * n), room.sized.regions)
+module _ (n : ℕ) (identifiers cells : List ℕ) (sized : Sized n identifiers cells) where
+  -- the regions, the statements and a byte for End
+  pub scene_parts : length (scene_of n identifiers cells) ≡ 5 * n + length (statement_records (n * n) n identifiers cells) + 1
+  scene_parts =
+      omega (arith, length_scene n identifiers cells, length-statements n identifiers cells (n * n), sized.regions)
 
   -- the regions, the statements behind them, and End behind these
-  pub scene_put : (regions statements : List ℕ) (end : ℕ) → regions ≡ sets buffer 0 (region_records identifiers)
+  pub scene_put : (buffer regions statements : List ℕ) (end : ℕ) → regions ≡ sets buffer 0 (region_records identifiers)
       → Put n (n * n) identifiers cells regions (5 * n) statements end
       → set statements end end_kind ≡ sets buffer 0 (scene_of n identifiers cells)
   unfolding scene_of
-  scene_put regions statements end e put =
+  scene_put buffer regions statements end e put =
       let R = region_records identifiers in
       let S = statement_records (n * n) n identifiers cells in
-      let long : 5 * n ≡ length R = omega (arith, length-regions identifiers, room.sized.regions) in
+      let long : 5 * n ≡ length R = omega (arith, length-regions identifiers, sized.regions) in
       let both : statements ≡ sets buffer 0 (R ++ S) = put_behind buffer regions statements R S 0 (5 * n) e (omega arith) put.bytes in
       let last : end ≡ 0 + length (R ++ S) = omega (arith, put.end, length-append R S) in
       put_behind buffer statements (set statements end end_kind) (R ++ S) (end_kind ∷ []) 0 end both last refl

@@ -11,7 +11,7 @@ use borrow.Author.Tests.{eq-eqb, ne_eqb}
 use lib.Dec.{eqb}
 use lib.ListN.{length, get_or, take, length-append}
 use lib.Seq.{take-suc, get_or-take, length-take-le, take_all}
-use Rattle.region.specs.declared.Found.TheVariants.{At, Nothing}
+use Rattle.std.proofs.Common.{Some, None}
 use Rattle.region.specs.Lookup.{place, identifier}
 use Rattle.lists.proofs.Splits.{split_eq}
 use Rattle.filing.specs.Said.{Statement, Said, naming}
@@ -41,7 +41,7 @@ saying identifiers statements = record { identifiers = identifiers; statements =
 
 module _ (identifiers : List ℕ) (different : Different identifiers) (words : Words identifiers) where
   -- an identifier is new to those before it
-  new_name : (p : ℕ) → p < length identifiers → place_of (naming (take p identifiers)) (identifier (get_or identifiers p 0)) ≡ Nothing
+  new_name : (p : ℕ) → p < length identifiers → place_of (naming (take p identifiers)) (identifier (get_or identifiers p 0)) ≡ None
   new_name p l =
       place_new (naming (take p identifiers)) (identifier (get_or identifiers p 0))
       (λ k u e.
@@ -93,7 +93,7 @@ module _ (n : ℕ) (identifiers cells : List ℕ) (different : Different identif
     (full : (p : ℕ) → p < n * n → get_or cells p 0 ≡ 0 → ⊥) (before : List ℕ) where
   -- the identifier at a place names it, whatever was stated
   found-there : (statements : List Statement) (i : ℕ) → i < n
-      → place_of (saying identifiers statements) (identifier (get_or identifiers i 0)) ≡ At (place i)
+      → place_of (saying identifiers statements) (identifier (get_or identifiers i 0)) ≡ Some (place i)
   found-there statements i l =
       place-there (saying identifiers statements) i (omega arith) (λ k u. different.apart k i u (omega arith))
 

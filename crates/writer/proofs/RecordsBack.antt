@@ -6,8 +6,7 @@ use native.Mathlib.Omega.{arith}
 use lib.ListN.{length, length-append}
 use lib.Seq.{get_or-append-add, get_or-append_seam}
 use Rattle.region.specs.declared.Place.{Place}
-use Rattle.region.specs.declared.Found.{Found}
-use Rattle.region.specs.declared.Found.TheVariants.{At, Nothing}
+use Rattle.std.proofs.Common.{Option, Some, None}
 use Rattle.region.specs.Lookup.{identifier}
 use Rattle.lists.specs.BigEndian.{big_endian, number_at}
 use Rattle.lists.proofs.BigEndianLaws.{number_of_bytes}
@@ -31,13 +30,13 @@ number_in scene before after x at h e l =
     rw (e, ← l, ← append_assoc before (big_endian x) after) (number_of_bytes before after x h)
 
 -- so looking it up is looking up that number
-looks_in : (scene : List ℕ) (said : Said) (x at : ℕ) {found : Found} → number_at scene at ≡ x
+looks_in : (scene : List ℕ) (said : Said) (x at : ℕ) {found : Option Place} → number_at scene at ≡ x
     → place_of said (identifier x) ≡ found → Looks scene said at found
 looks_in scene said x at e f =
     record { finds = ap (λ (y : ℕ). place_of said (identifier y)) e ∙ f }
 
 module _ (before rest : List ℕ) (said : Said) where
-  pub region_judged : (x : ℕ) → x < 4294967296 → (x ≡ 0 → ⊥) → place_of said (identifier x) ≡ Nothing
+  pub region_judged : (x : ℕ) → x < 4294967296 → (x ≡ 0 → ⊥) → place_of said (identifier x) ≡ None
       → regions said < most_regions
       → record_at (before ++ (region_record x ++ rest)) said (length before) ≡ declares x
   unfolding length_of
@@ -55,7 +54,7 @@ module _ (before rest : List ℕ) (said : Said) where
       }))
 
   pub statement_judged : (a b set : ℕ) (i j : Place) → a < 4294967296 → b < 4294967296 → (set ≡ 0 → ⊥)
-      → place_of said (identifier a) ≡ At i → place_of said (identifier b) ≡ At j
+      → place_of said (identifier a) ≡ Some i → place_of said (identifier b) ≡ Some j
       → record_at (before ++ (statement_record a b set ++ rest)) said (length before) ≡ states i j set
   unfolding length_of
   statement_judged a b set i j ha hb some found other =

@@ -9,6 +9,7 @@ use lib.Seq.{take-length}
 use contract.Lifetimes.{Lfts}
 use denote.Triple.Clauses.{AtExit}
 use borrow.Fn.Kinds.{Dens, res_t, ended_of}
+use Rattle.std.specs.Prelude.{Result, Ok}
 use Rattle.lists.specs.BigEndian.{AllBytes}
 use Rattle.lists.proofs.Splits.{split_lt}
 use Rattle.lists.proofs.LaidLaws.{take-laid}
@@ -23,8 +24,7 @@ use Rattle.filing.specs.Areas.{Areas, holding, Lent, lent_identifiers, lent_cell
 use Rattle.filing.proofs.Padded.{padded_in, padded_front}
 use Rattle.scene.specs.Reading.{accepted_said, read_scene, read_of}
 use Rattle.scene.specs.Reads.{Reads, starting_cell, areas_after}
-use Rattle.scene.specs.declared.Reading.{Reading}
-use Rattle.scene.specs.declared.Reading.TheVariants.{Accepted}
+use Rattle.scene.specs.declared.Unread.{Unread}
 use Rattle.scene.proofs.Endings.{right-areas, accepted-short}
 use Rattle.scene.proofs.Different.{accepted_different, accepted-some}
 use Rattle.scene.proofs.Small.{stated-byte, accepted-small}
@@ -36,8 +36,7 @@ use Rattle.writer.specs.Scene.{scene_of}
 use Rattle.writer.specs.Writes.{Writes}
 use Rattle.writer.specs.Writable.{Writable}
 use Rattle.writer.specs.RoundTrip.{Words, written_marks, Restored, Rewritten}
-use Rattle.writer.specs.declared.Writing.{Writing}
-use Rattle.writer.specs.declared.Writing.TheVariants.{Written}
+use Rattle.writer.specs.declared.Unwritten.{Unwritten}
 use Rattle.writer.proofs.CheckLaws.{good-names, names-good}
 use Rattle.writer.proofs.WriteLaws.{is-written, written_means}
 use Rattle.writer.proofs.Unique.{same_numbers}
@@ -80,8 +79,8 @@ filled_with said before identifiers cells marks lent e d m =
 
 -- the bytes that a write left in front, as many as it answered, read back to what was written
 pub round_trip : {n : ℕ} {identifiers cells buffer after : List ℕ} {bytes : ℕ} → Words identifiers → AllBytes cells
-    → Writes n identifiers cells buffer after (Written bytes)
-    → {lent read : Areas} {reading : Reading} → Lent lent → Reads (take bytes after) lent read reading
+    → Writes n identifiers cells buffer after (Ok bytes)
+    → {lent read : Areas} {reading : Result ℕ Unread} → Lent lent → Reads (take bytes after) lent read reading
     → Restored n identifiers cells reading read
 unfolding areas_after
 round_trip {n} {identifiers} {cells} {buffer} {after} {bytes} words small writes {lent} {read} {reading} right reads =
@@ -94,7 +93,7 @@ round_trip {n} {identifiers} {cells} {buffer} {after} {bytes} words small writes
     let ending : read_of (take bytes after) lent ≡ accepted_said said =
     right-areas (take bytes after) right ∙ ap read_scene part ∙ read_back n identifiers cells w words in
     record {
-      regions = answer_tells reading (Accepted n) (rw ending at reads.answer ∙ ap accepts w.sized.regions);
+      regions = answer_tells reading (Ok n) (rw ending at reads.answer ∙ ap accepts w.sized.regions);
       areas = reads.areas ∙ ap (λ (e : Ending Said). areas_after e lent) ending
           ∙ filled_with said lent identifiers cells (written_marks n cells) right refl (made-back n identifiers cells w words small)
           (marked-back n identifiers cells w words small);
@@ -137,7 +136,7 @@ bytes_said said =
 
 -- what was said is written into any buffer as long as the scene that said it
 module _ (scene : List ℕ) (said : Said) (bytes : AllBytes scene) (alone : read_scene scene ≡ accepted_said said) where
-  said_again : (marks buffer after : List ℕ) (writing : Writing) → length scene ≤ length buffer
+  said_again : (marks buffer after : List ℕ) (writing : Result ℕ Unwritten) → length scene ≤ length buffer
       → ((p : ℕ) → p < regions said * regions said → get_or (cells_of starting_cell said) p 0 ≡ 0 → ⊥)
       → Writes (regions said) said.identifiers (cells_of starting_cell said) buffer after writing
       → Rewritten scene (holding (padded lent_identifiers said.identifiers) (padded lent_cells (cells_of starting_cell said)) marks) after
@@ -150,7 +149,7 @@ module _ (scene : List ℕ) (said : Said) (bytes : AllBytes scene) (alone : read
       padded_front lent_cells cells (length-grid n (stated_cell starting_cell said.statements)) refl in
       let shorter = no_longer scene alone in
       let written = is-written n said.identifiers cells (length buffer) (rewritable scene alone full) (omega arith) in
-      let answer : writing ≡ Written size = same_numbers writing (Written size) (rw written at writes.answer) in
+      let answer : writing ≡ Ok size = same_numbers writing (Ok size) (rw written at writes.answer) in
       record {
         bytes = size;
         written = answer;
@@ -169,7 +168,7 @@ full_said {n = n} left full p l e =
     full p l (ap (λ (c : List ℕ). get_or c p 0) left.cells_are ∙ padded_in lent_cells (grid n f) p (rw (length-grid n f) l) ∙ e)
 
 -- the same about the call
-pub reads_rewritable : {scene : List ℕ} {lent read : Areas} {n : ℕ} → Reads scene lent read (Accepted n)
+pub reads_rewritable : {scene : List ℕ} {lent read : Areas} {n : ℕ} → Reads scene lent read (Ok n)
     → ((p : ℕ) → p < n * n → get_or read.cells p 0 ≡ 0 → ⊥)
     → Writable n (take n read.identifiers) (take (n * n) read.cells)
 reads_rewritable {scene} {n = n} reads full =
@@ -183,16 +182,16 @@ reads_rewritable {scene} {n = n} reads full =
 
 -- and about the generated Post of `read`
 pub read_rewritable : (κs : Lfts 4) (a : Dens κs kinds.ps) (r : (res_t kinds.r κs).Denot) (s : AtExit (ended_of 4 kinds.ps kinds.r) κs)
-    → Post κs a r s → (n : ℕ) → r ≡ Accepted n → ((p : ℕ) → p < n * n → get_or s.1.1.0.now p 0 ≡ 0 → ⊥)
+    → Post κs a r s → (n : ℕ) → r ≡ Ok n → ((p : ℕ) → p < n * n → get_or s.1.1.0.now p 0 ≡ 0 → ⊥)
     → Writable n (take n s.1.0.now) (take (n * n) s.1.1.0.now)
 read_rewritable κs a r s post n accepted = reads_rewritable (rw accepted at post)
 
 -- What was read from an accepted scene, with no empty cell, is written into any buffer as long as that scene, in no more bytes, and
 -- reading that again gives the same, with the marks of the written scene. That is a normal form: what may be lost is the order of the
 -- statements, so the marks too, that a cell was stated more than once, and statements of 255.
-pub read_write_read : {scene : List ℕ} {lent read : Areas} {n : ℕ} → AllBytes scene → Reads scene lent read (Accepted n)
+pub read_write_read : {scene : List ℕ} {lent read : Areas} {n : ℕ} → AllBytes scene → Reads scene lent read (Ok n)
     → ((p : ℕ) → p < n * n → get_or read.cells p 0 ≡ 0 → ⊥)
-    → {buffer after : List ℕ} {writing : Writing} → length scene ≤ length buffer
+    → {buffer after : List ℕ} {writing : Result ℕ Unwritten} → length scene ≤ length buffer
     → Writes n (take n read.identifiers) (take (n * n) read.cells) buffer after writing
     → Rewritten scene read after n writing
 read_write_read {scene} {lent} {read} {n} bytes reads full {buffer} {after} {writing} fits writes =

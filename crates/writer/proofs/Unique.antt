@@ -5,42 +5,43 @@ use lib.Dec.{eqb}
 use contract.Lifetimes.{Lfts}
 use denote.Triple.Clauses.{AtExit}
 use borrow.Fn.Kinds.{Dens, res_t, ended_of}
+use Rattle.std.specs.Prelude.{ℕ, Result, Ok, Err}
 use Rattle.region.specs.Lookup.{place}
 use Rattle.answer.specs.Answer.{Answer}
 use Rattle.answer.proofs.Unique.{told_one}
 use Rattle.writer.specs.Numbers.{answer_of}
-use Rattle.writer.specs.declared.Writing.{Writing}
-use Rattle.writer.specs.declared.Writing.TheVariants.{Written, OutOfRange, WrongLength, IdentifierZero, DeclaredTwice, EmptySet, TooLong, NoRoom}
+use Rattle.writer.specs.declared.Unwritten.{Unwritten}
+use Rattle.writer.specs.declared.Unwritten.TheVariants.{OutOfRange, WrongLength, IdentifierZero, DeclaredTwice, EmptySet, TooLong, NoRoom}
 use Rattle.writer.proofs.write.Kinds as kinds
 use Rattle.writer.proofs.write.Reads.{Post}
 use Rattle.writer.proofs.numbers.of_writing.Kinds as telling-kinds
 use Rattle.writer.proofs.numbers.of_writing.Reads as telling-reads
 
 -- the answer that has these numbers
-writing_of : Answer → Writing
+writing_of : Answer → Result ℕ Unwritten
 writing_of a =
-    cond (eqb a.number 0) (Written a.count)
-    (cond (eqb a.number 1) OutOfRange
+    cond (eqb a.number 0) (Ok a.count)
+    (Err (cond (eqb a.number 1) OutOfRange
     (cond (eqb a.number 2) WrongLength
     (cond (eqb a.number 3) TooLong
     (cond (eqb a.number 6) (IdentifierZero (place a.first))
     (cond (eqb a.number 7) (DeclaredTwice (place a.first))
-    (cond (eqb a.number 10) (EmptySet (place a.first) (place a.second)) NoRoom))))))
+    (cond (eqb a.number 10) (EmptySet (place a.first) (place a.second)) NoRoom)))))))
 
 -- the numbers of an answer give it back
-numbers_back : (writing : Writing) → writing_of (answer_of writing) ≡ writing
+numbers_back : (writing : Result ℕ Unwritten) → writing_of (answer_of writing) ≡ writing
 unfolding writing_of
-numbers_back (Written bytes) = refl
-numbers_back OutOfRange = refl
-numbers_back WrongLength = refl
-numbers_back (IdentifierZero p) = refl
-numbers_back (DeclaredTwice p) = refl
-numbers_back (EmptySet i j) = refl
-numbers_back TooLong = refl
-numbers_back NoRoom = refl
+numbers_back (Ok bytes) = refl
+numbers_back (Err OutOfRange) = refl
+numbers_back (Err WrongLength) = refl
+numbers_back (Err (IdentifierZero p)) = refl
+numbers_back (Err (DeclaredTwice p)) = refl
+numbers_back (Err (EmptySet i j)) = refl
+numbers_back (Err TooLong) = refl
+numbers_back (Err NoRoom) = refl
 
 -- answers with the same numbers are the same
-pub same_numbers : (a b : Writing) → answer_of a ≡ answer_of b → a ≡ b
+pub same_numbers : (a b : Result ℕ Unwritten) → answer_of a ≡ answer_of b → a ≡ b
 same_numbers a b e = sym (numbers_back a) ∙ ap writing_of e ∙ numbers_back b
 
 pub write_unique : (κs : Lfts 3) (a : Dens κs kinds.ps) (r r' : (res_t kinds.r κs).Denot)

@@ -2,13 +2,18 @@
 use mathlib.Core.Path.{◌≡◌, refl, sym, ap, ◌∙◌}
 use mathlib.Core.Bool.{true, false}
 use mathlib.Core.List.{List}
-use Prim.Native.Nat.{ℕ, ◌+◌, ◌*◌, ◌≤◌, ◌<◌}
-use native.Mathlib.Nat.{zero-add, mul-le-mul}
+use Prim.Native.Nat.{ℕ, ◌*◌, ◌≤◌, ◌<◌}
+use native.Mathlib.Nat.{zero-add}
 use native.Mathlib.Omega.{arith}
 use borrow.Author.Tests.{lt-ltb, le-ltb, eq-eqb, ne_eqb}
-use lib.Dec.{ltb}
+use lib.Dec.{eqb, ltb}
 use lib.ListN.{length, get_or}
 use lib.Seq.{sets, sets-eq, take-length}
+use Rattle.std.specs.Prelude.{Some, None, Result, Ok}
+use Rattle.std.specs.List.{position}
+use Rattle.lists.specs.Least.{found_below}
+use Rattle.lists.proofs.Found.{found_some, found_none}
+use Rattle.matrix.proofs.Searches.{empty_found, none_found}
 use Rattle.matrix.specs.Square.{in_range}
 use Rattle.matrix.specs.Cells.{row, column, first_empty}
 use Rattle.matrix.proofs.CellLaws.{in_range_lem, range_holds, has-square, no_square}
@@ -17,30 +22,39 @@ use Rattle.lists.specs.Laid.{laid}
 use Rattle.answer.specs.Answer.{Answer, refuses}
 use Rattle.answer.specs.Ending.{refused, stop}
 use Rattle.scene.specs.Format.{most_bytes}
-use Rattle.writer.specs.Scene.{scene_of, stated_count}
+use Rattle.writer.specs.Scene.{scene_of}
 use Rattle.writer.specs.Writing.{written, refused_with, refused_region, refused_cell, first_bad, checked, write_of}
 use Rattle.writer.specs.Numbers.{answer_of}
 use Rattle.writer.specs.Writes.{buffer_after, Writes}
 use Rattle.writer.specs.Writable.{Sized, Writable}
-use Rattle.writer.specs.declared.Writing.{Writing}
-use Rattle.writer.specs.declared.Writing.TheVariants.{Written}
-use Rattle.writer.proofs.SceneLaws.{length_scene}
+use Rattle.writer.specs.declared.Unwritten.{Unwritten}
 
--- n² is small, so nothing that the call computes with it wraps
-pub square-small : (n : ℕ) → n ≤ 64 → n * n ≤ 4096
-square-small n h = mul-le-mul h h
+-- what the first checks ask
+pub sized_by : (n : ℕ) (identifiers cells : List ℕ) → in_range n ≡ true → length identifiers ≡ n → length cells ≡ n * n → Sized n identifiers cells
+sized_by n identifiers cells range regions size =
+    let holds = range_holds n range in
+    record { square = record { some = holds.0; few = holds.1; size = size }; regions = regions }
 
--- what the checks compute of lists that have the right lengths
-module _ (n : ℕ) (identifiers cells : List ℕ) (sized : Sized n identifiers cells) (r : ℕ) where
-  pub bad_found : r ≡ first_bad (length identifiers) identifiers → r ≡ first_bad n identifiers
-  bad_found e = e ∙ ap (λ (k : ℕ). first_bad k identifiers) sized.regions
+-- what the searches answer of lists that have the right lengths
+module _ (n : ℕ) (identifiers cells : List ℕ) (sized : Sized n identifiers cells) where
+  pub bad_found : {p : ℕ} → Some p ≡ found_below (length identifiers) (first_bad (length identifiers) identifiers)
+      → (p ≡ first_bad n identifiers) × (p < n)
+  bad_found e =
+      let h = found_some (length identifiers) (first_bad (length identifiers) identifiers) e in
+      let same = ap (λ (k : ℕ). first_bad k identifiers) sized.regions in
+      (h.0 ∙ same, omega (arith, h.0, h.1, sized.regions))
 
-  pub empty-found : r ≡ first_empty (length cells) cells → r ≡ first_empty (n * n) cells
-  empty-found e = e ∙ ap (λ (k : ℕ). first_empty k cells) sized.square.size
+  pub none_bad : None ≡ found_below (length identifiers) (first_bad (length identifiers) identifiers) → n ≤ first_bad n identifiers
+  none_bad e = rw sized.regions at (found_none (length identifiers) (first_bad (length identifiers) identifiers) e)
 
-  pub length_found : r ≡ 5 * n + 10 * stated_count (length cells) cells + 1 → r ≡ length (scene_of n identifiers cells)
-  length_found e =
-      omega (arith, length_scene n identifiers cells, sized.regions, ap (λ (k : ℕ). stated_count k cells) sized.square.size)
+  pub empty_at : {p : ℕ} → Some p ≡ position (λ cell. eqb cell 0) cells → (p ≡ first_empty (n * n) cells) × (p < n * n)
+  empty_at e =
+      let h = empty_found cells e in
+      let same = ap (λ (k : ℕ). first_empty k cells) sized.square.size in
+      (h.0 ∙ same, omega (arith, h.0, h.1, sized.square.size))
+
+  pub none_empty : None ≡ position (λ cell. eqb cell 0) cells → n * n ≤ first_empty (n * n) cells
+  none_empty e = rw sized.square.size at (none_found cells e)
 
 module _ (n : ℕ) (identifiers cells : List ℕ) (room : ℕ) where
   pub out_of_range : in_range n ≡ false → write_of n identifiers cells room ≡ refused_with 1
@@ -153,14 +167,14 @@ pub record IsWritten (n : ℕ) (identifiers cells before after : List ℕ) (coun
   pub buffer : after ≡ laid (length (scene_of n identifiers cells)) (scene_of n identifiers cells) before
 
 module _ (n : ℕ) (identifiers cells buffer : List ℕ) where
-  pub is_refused : (writing : Writing) (numbers : Answer) → write_of n identifiers cells (length buffer) ≡ refused numbers
+  pub is_refused : (writing : Result ℕ Unwritten) (numbers : Answer) → write_of n identifiers cells (length buffer) ≡ refused numbers
       → answer_of writing ≡ numbers → Writes n identifiers cells buffer buffer writing
   unfolding buffer_after
   is_refused writing numbers e a = record { answer = rw e a; buffer = rw e }
 
   pub succeeds : (after scene : List ℕ) (bytes : ℕ) → write_of n identifiers cells (length buffer) ≡ written scene
       → length scene ≤ length buffer → bytes ≡ length scene → after ≡ sets buffer 0 scene
-      → Writes n identifiers cells buffer after (Written bytes)
+      → Writes n identifiers cells buffer after (Ok bytes)
   unfolding buffer_after laid
   succeeds after scene bytes e l b f =
       record {
@@ -169,7 +183,7 @@ module _ (n : ℕ) (identifiers cells buffer : List ℕ) where
       }
 
   -- what an answer that it is written means
-  pub written_means : (after : List ℕ) (bytes : ℕ) → Writes n identifiers cells buffer after (Written bytes)
+  pub written_means : (after : List ℕ) (bytes : ℕ) → Writes n identifiers cells buffer after (Ok bytes)
       → IsWritten n identifiers cells buffer after bytes
   unfolding buffer_after
   written_means after bytes w =

@@ -2,20 +2,20 @@
 #![tactic(auto)]
 
 mod checks;
+mod named;
 pub mod numbers;
 mod put;
 
 ghost use Rattle.writer.specs.Writes.{Writes};
 
-use checks::{first_bad, scene_length};
-use put::put_scene;
+use checks::first_bad;
+use named::NamedMatrix;
 use region::{Place, identifier_at};
 use scene::format::MOST_BYTES;
 
-#[derive(Clone, Copy)]
-pub enum Writing {
-    // Written, with so many bytes.
-    Written(usize),
+// Why a scene is not written.
+#[derive(Clone, Copy, PartialEq, Eq, Debug)]
+pub enum Unwritten {
     // The number of regions is not from 1 to 64.
     OutOfRange,
     // The identifiers are not n, or the cells not n².
@@ -32,37 +32,44 @@ pub enum Writing {
     NoRoom,
 }
 
-// Writes the scene of n regions into the front of the buffer; a refused write leaves the buffer untouched.
-pub fn write(n: usize, identifiers: &[u32], cells: &[u8], buffer: &mut [u8]) -> Writing
+// Writes the scene of n regions into the front of the buffer, and answers how many bytes it has; a refused write leaves the buffer
+// untouched.
+pub fn write(
+    n: usize,
+    identifiers: &[u32],
+    cells: &[u8],
+    buffer: &mut [u8],
+) -> Result<usize, Unwritten>
     ensures { Writes n identifiers.now cells.now buffer.old buffer.new result }
 {
     if !matrix::in_range(n) {
-        return Writing::OutOfRange;
+        return Err(Unwritten::OutOfRange);
     }
-    if identifiers.len() != n {
-        return Writing::WrongLength;
+    if identifiers.len() != n || cells.len() != n * n {
+        return Err(Unwritten::WrongLength);
     }
-    if cells.len() != n * n {
-        return Writing::WrongLength;
-    }
-    let bad = first_bad(identifiers);
-    if bad < n {
+    if let Some(bad) = first_bad(identifiers) {
         if identifier_at(identifiers, Place(bad)).0 == 0 {
-            return Writing::IdentifierZero(Place(bad));
+            return Err(Unwritten::IdentifierZero(Place(bad)));
         }
-        return Writing::DeclaredTwice(Place(bad));
+        return Err(Unwritten::DeclaredTwice(Place(bad)));
     }
-    let empty = matrix::first_empty(cells);
-    if empty < n * n {
-        return Writing::EmptySet(Place(empty / n), Place(empty % n));
+    let matrix = NamedMatrix {
+        n,
+        identifiers,
+        cells,
+    };
+    if let Some(empty) = matrix::first_empty(cells) {
+        let (row, column) = matrix.regions_of(empty);
+        return Err(Unwritten::EmptySet(row, column));
     }
-    let length = scene_length(n, cells);
+    let length = matrix.scene_length();
     if MOST_BYTES < length {
-        return Writing::TooLong;
+        return Err(Unwritten::TooLong);
     }
     if buffer.len() < length {
-        return Writing::NoRoom;
+        return Err(Unwritten::NoRoom);
     }
-    put_scene(n, identifiers, cells, buffer);
-    Writing::Written(length)
+    matrix.put_scene(buffer);
+    Ok(length)
 }

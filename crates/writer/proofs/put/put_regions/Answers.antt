@@ -7,13 +7,12 @@ use Rattle.writer.proofs.put.put_regions.Goals as goal
 
 pub loop-place-init : goal.loop-place-init
 unfolding region_records
-loop-place-init c = (omega arith, refl, refl)
+loop-place-init c = (refl, refl)
 
 pub loop-place-preserved : goal.loop-place-preserved
 loop-place-preserved c = (
-  omega arith,
-  c.put_region.auto.buffer ∙ c.loop-place.invariant.1,
-  region_next c.args.identifiers.now c.args.buffer.now _ _ c.loop-place.place _ (omega arith) c.identifier_at-identifier.ensures
-      c.loop-place.invariant.2
+  c.put_region.auto.buffer ∙ c.loop-place.invariant.0,
+  region_next c.args.identifiers.now c.args.buffer.now _ _ c.loop-place.place _ (omega arith) refl
+      c.loop-place.invariant.1
       c.put_region.ensures,
 )

@@ -1,6 +1,5 @@
 -- The invariant of the loop of `writer::put::put_regions`: the records of the places before `place` are put.
 use mathlib.Core.Path.{◌≡◌}
-use Prim.Native.Nat.{◌-◌, ◌≤◌}
 use lib.ListN.{length, take}
 use lib.Seq.{sets}
 use Rattle.writer.specs.Scene.{region_records}
@@ -8,8 +7,5 @@ use Rattle.writer.proofs.put.put_regions.Given as goal
 
 abbrev pub invariant-loop-place : goal.invariant-loop-place
 invariant-loop-place l =
-    (l.place ≤ length l.identifiers) × (length l.buffer ≡ length l.initial.buffer)
+    (length l.buffer ≡ length l.initial.buffer)
     × (l.buffer ≡ sets l.initial.buffer 0 (region_records (take l.place l.identifiers)))
-
-abbrev pub decreases-loop-place : goal.decreases-loop-place
-decreases-loop-place l = length l.identifiers - l.place
