@@ -10,5 +10,6 @@ pub mod Shifts
 pub mod Digits
 pub mod LowestBit
 pub mod InTurn
+pub mod Going
 -- no second answer
 pub mod Unique

@@ -9,6 +9,7 @@ use native.Mathlib.Omega.{arith}
 use lib.Arith.{lt-one}
 use lib.Bits.{and_le_r}
 use lib.Count.{count_trailing_zeros, under}
+use lib.ListN.{length}
 use lib.Dec.{eqb, eqb-suc-zero, eqb-suc-suc, eqb→eq, eqb_refl}
 use Rattle.relation.specs.Sets.{has}
 use Rattle.relation.proofs.Tests.{same}
@@ -142,6 +143,16 @@ places-first m f = first_of m f 64 f.below
 pub places-none : places 0 ≡ []
 unfolding places places_below has
 places-none = refl
+
+pub places_next : (m k rest : ℕ) → m < 2 ^ 64 → 0 < m → k ≡ lowest_of m → rest ≡ without_lowest m → places m ≡ k ∷ places rest
+places_next m k rest h n e q = places-first m (lowest_facts m h n) ∙ ap₂ (λ (j r : ℕ). j ∷ places r) (sym e) (sym q)
+
+pub fewer_places : (m k rest : ℕ) → m < 2 ^ 64 → 0 < m → k ≡ lowest_of m → rest ≡ without_lowest m
+    → length (places rest) < length (places m)
+fewer_places m k rest h n e q = let next = ap length (places_next m k rest h n e q) in omega arith
+
+pub places_of_none : (m : ℕ) → m ≡ 0 → places m ≡ []
+places_of_none m e = ap places e ∙ places-none
 
 -- ---- a loop that takes the lowest bit away until none is left: what is still to be visited from a comes to the same
 

@@ -1,4 +1,5 @@
 pub mod Lists
 pub mod Words
 pub mod Places
+pub mod Going
 pub mod Inner

@@ -1,6 +1,8 @@
 // The places of a word's bits, lowest first.
 ghost use Rattle.std.specs.Prelude.{◌≡◌};
-ghost use Rattle.lanes.specs.Places.{lowest_of, without_lowest};
+ghost use Rattle.std.specs.Iterator.{YieldsFirst, item_count};
+ghost use Rattle.lanes.specs.Places.{lowest_of, without_lowest, places};
+ghost use Rattle.lanes.specs.Going.{places_left};
 
 // The place of the lowest bit; 64 if there is none.
 pub fn lowest(word: u64) -> usize
@@ -17,4 +19,32 @@ pub fn without_lowest(word: u64) -> u64
         return 0;
     }
     word & (word - 1)
+}
+
+// Goes through the places of a word's bits; it has the bits whose places are still to come.
+#[derive(Clone, Copy)]
+pub struct Places(u64);
+
+// The places of the word's bits.
+pub fn places_of(word: u64) -> Places
+    ensures { places_left result ≡ places word }
+{
+    Places(word)
+}
+
+impl Iterator for Places {
+    type Item = usize;
+
+    ghost next_gives = { YieldsFirst places_left };
+
+    ghost remaining = { item_count places_left };
+
+    fn next(&mut self) -> Option<usize> {
+        if self.0 == 0 {
+            return None;
+        }
+        let place = lowest(self.0);
+        self.0 = without_lowest(self.0);
+        Some(place)
+    }
 }

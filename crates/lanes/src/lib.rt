@@ -6,4 +6,4 @@ mod along;
 mod bits;
 
 pub use along::composed;
-pub use bits::{lowest, without_lowest};
+pub use bits::{Places, lowest, places_of, without_lowest};
