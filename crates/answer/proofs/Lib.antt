@@ -1,7 +1,6 @@
 -- how a call ends
 pub mod Stops
--- the 20 bytes
-pub mod AnswerBytes
+-- the answer area of an export
 pub mod Exporting
 -- no second answer meets a contract
 pub mod Unique

@@ -1,15 +1,14 @@
 // What every call answers: the document's five numbers, and the 20 bytes in which they cross to a host in C.
 #![tactic(auto)]
 
-ghost use Rattle.std.specs.Prelude.{◌≡◌, cond, ◌%◌};
+ghost use Rattle.std.specs.Prelude.{◌≡◌};
+ghost use Rattle.lists.specs.BigEndian.{big_endian};
 ghost use Rattle.answer.specs.Answer.{answer};
 ghost use Rattle.answer.specs.Told.{told};
-ghost use Rattle.answer.specs.Bytes.{answer_bytes, fits, Answers};
-
-use lists::put_number;
+ghost use Rattle.answer.specs.Bytes.{Answers};
 
 // The refusal number or 0, three places (unused ones 0), and a count.
-#[derive(Clone, Copy)]
+#[derive(Clone, Copy, PartialEq, Eq, Debug)]
 pub struct Numbers {
     pub number: u32,
     pub first: usize,
@@ -30,24 +29,11 @@ pub fn tell(number: u32, first: usize, second: usize, third: usize, count: usize
     }
 }
 
-// The 32 bits of a number that cross to C; no number of an answer is wider.
-fn crossing(number: usize) -> u32
-    ensures { result ≡ number % 4294967296 }
+// The low 32 bits of a number, as they cross to C; no number of an answer is wider.
+fn crossing(number: usize) -> [u8; 4]
+    ensures { result ≡ big_endian number }
 {
-    (number % 4294967296) as u32
-}
-
-// Five numbers into an area of exactly 20 bytes; an area of another length is left as it was.
-fn put_five(area: &mut [u8], number: u32, first: u32, second: u32, third: u32, count: u32)
-    ensures { area.new ≡ cond (fits area.old) (answer_bytes (answer number first second third count)) area.old }
-{
-    if area.len() == 20 {
-        put_number(area, 0, number);
-        put_number(area, 4, first);
-        put_number(area, 8, second);
-        put_number(area, 12, third);
-        put_number(area, 16, count);
-    }
+    ((number & 0xffff_ffff) as u32).to_be_bytes()
 }
 
 // An answer into an area of exactly 20 bytes, and its number handed back; with an area of another length that is 2.
@@ -57,10 +43,16 @@ pub fn put_answer(area: &mut [u8], numbers: Numbers) -> u32
     if area.len() != 20 {
         return 2;
     }
-    let first = crossing(numbers.first);
-    let second = crossing(numbers.second);
-    let third = crossing(numbers.third);
-    let count = crossing(numbers.count);
-    put_five(area, numbers.number, first, second, third, count);
+    // a widening `as`, since `usize` has no `From<u32>`
+    let number = numbers.number as usize;
+    let bytes = [
+        number,
+        numbers.first,
+        numbers.second,
+        numbers.third,
+        numbers.count,
+    ]
+    .map(crossing);
+    area.copy_from_slice(bytes.as_flattened());
     numbers.number
 }
