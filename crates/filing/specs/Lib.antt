@@ -5,3 +5,4 @@ pub mod Marks
 pub mod Turned
 pub mod Areas
 pub mod Inner
+pub mod LentAreas

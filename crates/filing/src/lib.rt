@@ -3,9 +3,11 @@
 #![tactic(auto)]
 
 ghost use Rattle.std.specs.Prelude.{◌≡◌, ◌+◌, ◌*◌, ◌<◌, length, get_or, replicate, set, take};
+ghost use Rattle.matrix.specs.Cells.{cell_or_empty};
 ghost use Rattle.filing.specs.Said.{naming, statement};
 ghost use Rattle.filing.specs.Places.{place_of};
 ghost use Rattle.filing.specs.Areas.{holding, are_lent, started, emptied, filed_in, marked_in, packed};
+ghost use Rattle.filing.specs.LentAreas.{held, SameAreas};
 ghost use Rattle.filing.specs.Inner.{Rows};
 
 use matrix::MOST_REGIONS;
@@ -18,12 +20,88 @@ pub const LENT_IDENTIFIERS: usize = 64;
 // The cells that are lent: 64 rows of 64.
 pub const LENT_CELLS: usize = 4096;
 
-// Whether the areas have these lengths; there is a mark for each cell.
-#[tactic(auto, unfolding(crate::specs::Areas::are_lent))]
-pub fn are_lent(identifiers: &[u32], cells: &[u8], marks: &[u16]) -> bool
-    ensures { result ≡ are_lent (holding identifiers.now cells.now marks.now) }
-{
-    identifiers.len() == LENT_IDENTIFIERS && cells.len() == LENT_CELLS && marks.len() == LENT_CELLS
+// The areas that a caller lends: identifiers by place, cells, and a mark for each cell. They are his: each call leaves them where they are.
+#[derive(Drop)]
+pub struct LentAreas<'a> {
+    pub identifiers: &'a mut [u32],
+    pub cells: &'a mut [u8],
+    pub marks: &'a mut [u16],
+}
+
+impl LentAreas<'_> {
+    // Whether the areas have the right lengths.
+    #[tactic(auto, unfolding(crate::specs::Areas::are_lent))]
+    pub fn are_lent(&self) -> bool
+        ensures { result ≡ are_lent (held self.now) }
+    {
+        self.identifiers.len() == LENT_IDENTIFIERS
+            && self.cells.len() == LENT_CELLS
+            && self.marks.len() == LENT_CELLS
+    }
+
+    // The identifiers by place, to look at.
+    pub fn identifiers(&self) -> &[u32]
+        ensures { result.now ≡ self.now.identifiers.now }
+    {
+        &*self.identifiers
+    }
+
+    // Nothing is said yet: no identifier, every cell the one that it starts at, and no mark.
+    pub fn begin(&mut self, start: RelationSet)
+        ensures same { SameAreas self.old self.new }
+        ensures said { held self.new ≡ started start.0 (held self.old) }
+    {
+        self.identifiers.fill(0);
+        self.cells.fill(start.0);
+        self.marks.fill(0);
+    }
+
+    // All areas all 0.
+    pub fn clear(&mut self)
+        ensures same { SameAreas self.old self.new }
+        ensures said { held self.new ≡ emptied (held self.old) }
+    {
+        self.begin(RelationSet::EMPTY);
+    }
+
+    // A region takes a place, if the area has an entry for it.
+    pub fn put_region(&mut self, place: Place, identifier: Identifier)
+        ensures same { SameAreas self.old self.new }
+        ensures said { held self.new ≡ holding (set self.old.identifiers.now place.0 identifier.0)
+            self.old.cells.now self.old.marks.now }
+    {
+        put(self.identifiers, place.0, identifier.0);
+    }
+
+    // The set in a cell, in rows of 64.
+    fn cell(&self, from: Place, to: Place) -> RelationSet
+        ensures { result.0 ≡ cell_or_empty 64 self.now.cells.now from.0 to.0 }
+    {
+        matrix::at(MOST_REGIONS, self.cells, from.0, to.0)
+    }
+
+    // A statement takes the mark of its own cell, in rows of 64, where it removes a relation.
+    pub fn mark(&mut self, from: Place, to: Place, stated: RelationSet, number: u16)
+        ensures same { SameAreas self.old self.new }
+        ensures said { held self.new ≡ holding self.old.identifiers.now self.old.cells.now
+            (marked_in self.old.cells.now self.old.marks.now (statement from to stated.0) number) }
+    {
+        let set = self.cell(from, to);
+        let left = set.intersect(stated);
+        if left != set {
+            let at = from.0 * MOST_REGIONS + to.0;
+            put(self.marks, at, number);
+        }
+    }
+
+    // A statement is intersected into its own cell, in rows of 64.
+    pub fn file(&mut self, from: Place, to: Place, stated: RelationSet)
+        ensures same { SameAreas self.old self.new }
+        ensures said { held self.new ≡ holding self.old.identifiers.now
+            (filed_in self.old.cells.now (statement from to stated.0)) self.old.marks.now }
+    {
+        matrix::narrow(MOST_REGIONS, self.cells, from.0, to.0, stated);
+    }
 }
 
 // The place that an identifier names among the first `count` entries.
@@ -34,24 +112,6 @@ pub fn place_of(identifiers: &[u32], count: usize, wanted: Identifier) -> Option
     lookup(identifiers, count, wanted)
 }
 
-// Nothing is said yet: no identifier, every cell the one that it starts at, and no mark.
-pub fn begin(identifiers: &mut [u32], cells: &mut [u8], marks: &mut [u16], start: RelationSet)
-    ensures { holding identifiers.new cells.new marks.new
-        ≡ started start.0 (holding identifiers.old cells.old marks.old) }
-{
-    identifiers.fill(0);
-    cells.fill(start.0);
-    marks.fill(0);
-}
-
-// All areas all 0.
-pub fn clear(identifiers: &mut [u32], cells: &mut [u8], marks: &mut [u16])
-    ensures { holding identifiers.new cells.new marks.new
-        ≡ emptied (holding identifiers.old cells.old marks.old) }
-{
-    begin(identifiers, cells, marks, RelationSet::EMPTY);
-}
-
 // An entry at a place, if the area has one there.
 fn put<T: Copy>(area: &mut [T], at: usize, entry: T)
     ensures { area.new ≡ set area.old at entry }
@@ -59,39 +119,6 @@ fn put<T: Copy>(area: &mut [T], at: usize, entry: T)
     if at < area.len() {
         area[at] = entry;
     }
-}
-
-// A region takes a place, if the area has an entry for it.
-pub fn put_region(identifiers: &mut [u32], place: Place, identifier: Identifier)
-    ensures { identifiers.new ≡ set identifiers.old place.0 identifier.0 }
-{
-    put(identifiers, place.0, identifier.0);
-}
-
-// A statement takes the mark of its own cell, in rows of 64, where it removes a relation.
-pub fn mark(
-    cells: &[u8],
-    marks: &mut [u16],
-    from: Place,
-    to: Place,
-    stated: RelationSet,
-    number: u16,
-)
-    ensures { marks.new ≡ marked_in cells.now marks.old (statement from to stated.0) number }
-{
-    let set = matrix::at(MOST_REGIONS, cells, from.0, to.0);
-    let left = set.intersect(stated);
-    if left.0 != set.0 {
-        let at = from.0 * MOST_REGIONS + to.0;
-        put(marks, at, number);
-    }
-}
-
-// A statement is intersected into its own cell, in rows of 64.
-pub fn file(cells: &mut [u8], from: Place, to: Place, stated: RelationSet)
-    ensures { cells.new ≡ filed_in cells.old (statement from to stated.0) }
-{
-    matrix::narrow(MOST_REGIONS, cells, from.0, to.0, stated);
 }
 
 // What belongs at a place once the rows have n entries: the entry that stands there then, and nothing past the last.
