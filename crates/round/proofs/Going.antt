@@ -1,28 +1,30 @@
--- Loops that go through the regions of a mask, lowest first: where each place lies, what a turn of each loop makes, and the mask itself.
-use Prim.Native.Nat.{ℕ, ◌+◌, ◌*◌, ◌-◌, ◌%◌, ◌^◌, ◌<◌, ◌≤◌}
+-- Loops that go through the regions of a mask, lowest first: which places come, what a turn of each loop makes, and the mask itself.
+use Prim.Native.Nat.{ℕ, zero, suc, ◌+◌, ◌*◌, ◌-◌, ◌%◌, ◌^◌, ◌<◌, ◌≤◌}
 use mathlib.Core.Path.{◌≡◌, refl, sym, ap, ap₂, ◌∙◌, subst}
-use mathlib.Core.Bool.{Bool, true, false, not, ◌&&◌, and_assoc, and_comm}
-use mathlib.Core.List.{List}
-use native.Mathlib.Nat.{lt_of_le_of_lt, mod-eq_of_lt, one-mul}
+use mathlib.Core.Bool.{Bool, true, false, cond, not, ◌&&◌, and_assoc, and_comm}
+use mathlib.Core.List.{List, [], ◌∷◌, ◌++◌}
+use native.Mathlib.Nat.{le_refl, lt_of_le_of_lt, mod-eq_of_lt, one-mul}
 use native.Mathlib.Omega.{arith}
 use lib.Bits.{bit_and, and_le_l}
 use lib.Count.{count_trailing_zeros}
+use borrow.Author.Tests.{lt-ltb, le-ltb}
+use Rattle.std.proofs.Common.{Some, None}
 use lib.Dec.{T, eqb, eqb→eq, eqb_refl}
 use lib.ListN.{take, drop}
 use lib.Pow.{pow-lt}
 use lib.Seq.{paste}
 use borrow.Rule.Slice.PartMut.{put_mid}
-use Rattle.lists.specs.Least.{least}
-use Rattle.lists.proofs.Splits.{split_eq}
+use Rattle.lists.specs.Least.{least, found_below}
+use Rattle.lists.proofs.Splits.{split_eq, by_test}
 use Rattle.lists.proofs.LeastLaws.{least-here, least_gone}
 use Rattle.relation.specs.Sets.{has, empty, universal}
 use Rattle.relation.proofs.Member.{has-intersect, has-only}
 use Rattle.relation.proofs.Tests.{same}
 use Rattle.lanes.specs.Words.{set_at}
-use Rattle.lanes.specs.Places.{lowest_of, without_lowest, visited}
+use Rattle.lanes.specs.Places.{lowest_of, places, places_below, in_turn, visited}
 use Rattle.lanes.proofs.Unions.{empty-has}
 use Rattle.lanes.proofs.Digits.{has_other}
-use Rattle.lanes.proofs.LowestBit.{Lowest, lowest_facts, Left, visited_one}
+use Rattle.lanes.proofs.LowestBit.{lowest_facts}
 use Rattle.planes.specs.Planes.{block_of}
 use Rattle.round.specs.Onward.{wired_all}
 use Rattle.round.specs.Inner.{lanes_with_member, lanes_with_all, spread, narrowed, Room, part_of, Chosen}
@@ -30,54 +32,80 @@ use Rattle.planes.proofs.Laying.{put_back}
 use Rattle.round.proofs.Wires.{all_wired}
 use Rattle.round.proofs.Lanes.{has_members, has_all}
 
--- ---- the lowest of the places that are left
+-- ---- the places that a loop goes through
 
-pub record AtLowest (left planes onward k : ℕ) : Type 0 where
-  pub facts : Lowest left
+-- each of them is one of the word's
+pub Among : ℕ → List ℕ → Type 0
+Among m [] = Unit {0}
+Among m (k ∷ ks) = (k < 64) × (has m k ≡ true) × Among m ks
+
+among_append : (m : ℕ) (xs ys : List ℕ) → Among m xs → Among m ys → Among m (xs ++ ys)
+unfolding Among
+among_append m [] ys p q = q
+among_append m (x ∷ xs) ys p q = (p.0, p.1, among_append m xs ys p.2 q)
+
+among_below : (m n : ℕ) → n ≤ 64 → Among m (places_below n m)
+unfolding places_below Among
+among_below m zero h = tt
+among_below m (suc n) h =
+    among_append m (places_below n m) (cond (has m n) (n ∷ []) []) (among_below m n (omega arith)) (by_test (has m n) here none)
+  where
+    here : has m n ≡ true → Among m (cond (has m n) (n ∷ []) [])
+    here e = rw e (h, e, tt)
+
+    none : has m n ≡ false → Among m (cond (has m n) (n ∷ []) [])
+    none e = rw e tt
+
+pub among_start : (m : ℕ) (left : List ℕ) → left ≡ places m → Among m left
+unfolding places
+among_start m left e = subst (Among m) (sym e) (among_below m 64 (le_refl 64))
+
+pub among_next : (m k : ℕ) (left rest : List ℕ) → left ≡ k ∷ rest → Among m left → (k < 64) × (has m k ≡ true) × Among m rest
+unfolding Among
+among_next m k left rest e a = subst (Among m) e a
+
+-- a region among those that there is room for
+pub record AtPlace (planes onward k : ℕ) : Type 0 where
   pub lane : k < 64
-  pub member : has left k ≡ true
   pub row : 8 * k + 8 ≤ planes
   pub space : 64 * k + 64 ≤ onward
 
-pub at_lowest : (left live planes onward k : ℕ) → live < 2 ^ 64 → 0 < left → Left left live → Room live planes onward → k ≡ lowest_of left
-    → AtLowest left planes onward k
-at_lowest left live planes onward k h n l room e =
-    let f = lowest_facts left (lt_of_le_of_lt l.le h) n in
-    let in_left : has left k ≡ true = ap (has left) e ∙ f.member in
-    let in_live : has live k ≡ true = l.part k in_left in
-    record {
-      facts = f;
-      lane = subst (λ (x : ℕ). x < 64) (sym e) f.below;
-      member = in_left;
-      row = room.row k in_live;
-      space = room.space k in_live;
-    }
+pub at_place : {live planes onward k : ℕ} {left rest : List ℕ} → Room live planes onward → Among live left → left ≡ k ∷ rest → AtPlace planes onward k
+at_place {live} {planes} {onward} {k} {left} {rest} room a e =
+    let here = among_next live k left rest e a in record { lane = here.0; row = room.row k here.1; space = room.space k here.1 }
 
--- ---- one turn
+-- ---- one turn, and the end
+
+module _ (step : List ℕ → ℕ → List ℕ) where
+  pub turn_starts : (a : List ℕ) (m : ℕ) (left : List ℕ) → left ≡ places m → in_turn step a left ≡ visited step a m
+  unfolding visited
+  turn_starts a m left e = ap (in_turn step a) e
+
+  pub turn_goes : (a next : List ℕ) (k : ℕ) (left rest : List ℕ) → left ≡ k ∷ rest → next ≡ step a k → in_turn step next rest ≡ in_turn step a left
+  unfolding in_turn
+  turn_goes a next k left rest e q = ap (λ (x : List ℕ). in_turn step x rest) q ∙ ap (in_turn step a) (sym e)
+
+  pub turn_ends : (a left : List ℕ) → left ≡ [] → a ≡ in_turn step a left
+  unfolding in_turn
+  turn_ends a left e = sym (ap (in_turn step a) e)
 
 abbrev pub narrowing : List ℕ → List ℕ → List ℕ → ℕ → List ℕ
 narrowing w onward all k = narrowed all (spread w k) (part_of onward k)
 
-pub through_one : (w onward all next column : List ℕ) (left k rest count : ℕ) → Lowest left → k ≡ lowest_of left → rest ≡ without_lowest left
-    → column ≡ spread w k → count ≡ 64 → next ≡ narrowed all column (take count (drop (64 * k) onward))
-    → visited (narrowing w onward) next rest ≡ visited (narrowing w onward) all left
-through_one w onward all next column left k rest count f e q s m n =
-    ap (λ (a : List ℕ). visited (narrowing w onward) a rest)
-    (n ∙ ap₂ (λ (a : List ℕ) (c : ℕ). narrowed all a (take c (drop (64 * k) onward))) s m)
-    ∙ visited_one (narrowing w onward) all left k rest f e q
+pub through_one : (w onward all next column : List ℕ) (k count : ℕ) → column ≡ spread w k → count ≡ 64
+    → next ≡ narrowed all column (take count (drop (64 * k) onward)) → next ≡ narrowing w onward all k
+through_one w onward all next column k count s m n =
+    n ∙ ap₂ (λ (a : List ℕ) (c : ℕ). narrowed all a (take c (drop (64 * k) onward))) s m
 
 abbrev pub readying : List ℕ → List ℕ → ℕ → List ℕ
 readying old area k = paste area (64 * k) (wired_all (block_of old k)) 64
 
-pub onward_one : (old area words b : List ℕ) (left k rest count : ℕ) → Lowest left → k ≡ lowest_of left → rest ≡ without_lowest left
-    → b ≡ block_of old k → words ≡ wired_all b → count ≡ 64
-    → visited (readying old) (put_mid (64 * k) count area words) rest ≡ visited (readying old) area left
-onward_one old area words b left k rest count f e q s w m =
+pub onward_one : (old area words b : List ℕ) (k count : ℕ) → b ≡ block_of old k → words ≡ wired_all b → count ≡ 64
+    → put_mid (64 * k) count area words ≡ readying old area k
+onward_one old area words b k count s w m =
     let made : words ≡ wired_all (block_of old k) = w ∙ ap wired_all s in
-    ap (λ (a : List ℕ). visited (readying old) a rest)
-    (ap (λ (x : List ℕ). put_mid (64 * k) count area x) made
-    ∙ put_back area (wired_all (block_of old k)) (64 * k) count 64 m (all_wired (block_of old k)).long)
-    ∙ visited_one (readying old) area left k rest f e q
+    ap (λ (x : List ℕ). put_mid (64 * k) count area x) made
+    ∙ put_back area (wired_all (block_of old k)) (64 * k) count 64 m (all_wired (block_of old k)).long
 
 -- ---- the regions that a row goes through
 
@@ -129,14 +157,22 @@ empty-least w members h e =
     lowest_least (18446744073709551615 - members) (λ x. eqb (set_at w x) empty) (omega arith)
     (λ k l. has_other members k h l ∙ ap not (ap (λ (x : ℕ). has x k) e ∙ has_members w k) ∙ not_not (eqb (set_at w k) empty))
 
--- where every lane has a member, none is the first empty one; otherwise it is the lowest of those that have none
-pub empty-none : (w : List ℕ) (members : ℕ) → members < 2 ^ 64 → members ≡ lanes_with_member w → 18446744073709551615 - members ≡ 0
-    → 64 ≤ least 64 (λ x. eqb (set_at w x) empty)
-empty-none w members h e z =
-    let place : 64 ≡ least 64 (λ x. eqb (set_at w x) empty) = sym (ap lowest_of z ∙ none_lowest) ∙ empty-least w members h e in omega arith
+-- where every lane has a member there is none; otherwise it is the lowest of those that have none
+module _ (w : List ℕ) (members : ℕ) (small : members < 2 ^ 64) (e : members ≡ lanes_with_member w) where
+  first : ℕ
+  first = least 64 (λ x. eqb (set_at w x) empty)
 
-pub empty-some : (w : List ℕ) (members k : ℕ) → members < 2 ^ 64 → members ≡ lanes_with_member w → (18446744073709551615 - members ≡ 0 → ⊥)
-    → k ≡ lowest_of (18446744073709551615 - members) → (k ≡ least 64 (λ x. eqb (set_at w x) empty)) × (k < 64)
-empty-some w members k h e n q =
-    let f = lowest_facts (18446744073709551615 - members) (omega arith) (split_eq (18446744073709551615 - members) 0 (λ z. absurd (n z)) (λ s. omega arith)) in
-    (q ∙ empty-least w members h e, subst (λ (x : ℕ). x < 64) (sym q) f.below)
+  pub empty-none : 18446744073709551615 - members ≡ 0 → None ≡ found_below 64 (least 64 (λ x. eqb (set_at w x) empty))
+  unfolding first
+  empty-none z =
+      let place : 64 ≡ first = sym (ap lowest_of z ∙ none_lowest) ∙ empty-least w members small e in
+      sym (ap (λ (b : Bool). cond b (Some first) None) (le-ltb first 64 (omega arith)))
+
+  pub empty-some : (k : ℕ) → (18446744073709551615 - members ≡ 0 → ⊥) → k ≡ lowest_of (18446744073709551615 - members)
+      → Some k ≡ found_below 64 (least 64 (λ x. eqb (set_at w x) empty))
+  unfolding first
+  empty-some k n q =
+      let f = lowest_facts (18446744073709551615 - members) (omega arith) (split_eq (18446744073709551615 - members) 0 (λ z. absurd (n z)) (λ s. omega arith)) in
+      let place : k ≡ first = q ∙ empty-least w members small e in
+      let below : first < 64 = subst (λ (x : ℕ). x < 64) (sym q ∙ place) f.below in
+      ap (λ (x : ℕ). Some x) place ∙ sym (ap (λ (b : Bool). cond b (Some first) None) (lt-ltb first 64 below))

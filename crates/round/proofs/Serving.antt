@@ -13,7 +13,7 @@ use Rattle.relation.proofs.Member.{has-intersect}
 use Rattle.lanes.proofs.Shifts.{has_shr, has_beyond}
 use Rattle.lanes.proofs.Digits.{all_ones}
 use Rattle.matrix.specs.Cells.{row, column}
-use Rattle.std.proofs.Common.{Result, Err}
+use Rattle.std.proofs.Common.{Result}
 use Rattle.round.specs.declared.rounds.Emptied.{Emptied}
 use Rattle.planes.specs.Planes.{sets_of}
 use Rattle.round.specs.Round.{known, new_set, round_planes}
@@ -125,10 +125,3 @@ module _ (n live : ℕ) (old new onward : List ℕ) where
     where
       taken : {A : Type 0} (x y : A) → cond (serves_round n (length old) (length new) (length onward)) x y ≡ x
       taken x y = ap (λ (b : Bool). cond b x y) e
-
-  pub rounds_not_made : serves_round n (length old) (length new) (length onward) ≡ false
-      → Rounds n live old new onward new onward (Err (record { row = 0; column = 0 }))
-  rounds_not_made e = record { came = sym (left _ _); in_new = sym (left _ new); in_onward = sym (left _ onward) }
-    where
-      left : {A : Type 0} (x y : A) → cond (serves_round n (length old) (length new) (length onward)) x y ≡ y
-      left x y = ap (λ (b : Bool). cond b x y) e

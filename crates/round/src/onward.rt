@@ -3,7 +3,7 @@ ghost use Rattle.std.specs.Prelude.{◌≡◌, length};
 ghost use Rattle.round.specs.Onward.{wired_all, onward_of};
 ghost use Rattle.round.specs.Inner.{Room};
 
-use lanes::{composed, lowest, without_lowest};
+use lanes::{composed, places_of};
 use planes::{block_at, put_block};
 
 // What each relation gives with the sets of b: the eight words of relation p are block p.
@@ -21,10 +21,7 @@ pub(crate) fn spread_out(live: u64, old: &[u64], onward: &mut [u64])
     requires { Room live (length old.now) (length onward.old) }
     ensures { onward.new ≡ onward_of live old.now onward.old }
 {
-    let mut left = live;
-    while left != 0 {
-        let k = lowest(left);
-        left = without_lowest(left);
+    for k in places_of(live) {
         put_onward(block_at(old, k), &mut onward[64 * k..64 * k + 64]);
     }
 }

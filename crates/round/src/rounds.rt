@@ -54,7 +54,7 @@ fn make_round(
     make_blocks(n, live, old, new, onward)
 }
 
-// Whether n is in range and every length serves.
+// Whether n is in range and every length serves. The three slices stay three: `old` is read and the others written, by other functions each.
 fn serves(n: usize, old: usize, new: usize, onward: usize) -> bool
     ensures { result ≡ serves_round n old new onward }
 {

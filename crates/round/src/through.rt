@@ -1,11 +1,11 @@
 // A block of rows through the regions that it is worth going through.
-ghost use Rattle.std.specs.Prelude.{◌≡◌, ◌<◌, ◌≤◌, MatchOption, eqb, length};
-ghost use Rattle.lists.specs.Least.{least};
+ghost use Rattle.std.specs.Prelude.{◌≡◌, ◌<◌, eqb, length};
+ghost use Rattle.lists.specs.Least.{least, found_below};
 ghost use Rattle.lanes.specs.Words.{set_at};
 ghost use Rattle.round.specs.Inner.{Room, Chosen, block_through};
 
 use crate::words::{common, everywhere, members, narrow};
-use lanes::{lowest, without_lowest};
+use lanes::{lowest, places_of};
 
 // The live regions, other than b itself, at which row b has another set than the universal one.
 pub(crate) fn chosen(live: u64, w: [u64; 8], b: usize) -> u64
@@ -21,10 +21,7 @@ pub(crate) fn through(w: [u64; 8], ks: u64, onward: &[u64]) -> [u64; 8]
     ensures { result ≡ block_through w ks onward.now }
 {
     let mut all = w;
-    let mut left = ks;
-    while left != 0 {
-        let k = lowest(left);
-        left = without_lowest(left);
+    for k in places_of(ks) {
         let next = narrow(all, everywhere(w, k), &onward[64 * k..64 * k + 64]);
         all = next;
     }
@@ -33,7 +30,7 @@ pub(crate) fn through(w: [u64; 8], ks: u64, onward: &[u64]) -> [u64; 8]
 
 // The first lane whose set is empty.
 pub(crate) fn empty_lane(w: [u64; 8]) -> Option<usize>
-    ensures { let first = least 64 (λ x. eqb (set_at w x) 0) in MatchOption result (64 ≤ first) (λ x. (x ≡ first) × (x < 64)) }
+    ensures { result ≡ found_below 64 (least 64 (λ x. eqb (set_at w x) 0)) }
 {
     match !members(w) {
         0 => None,

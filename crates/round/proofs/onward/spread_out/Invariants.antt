@@ -1,14 +1,12 @@
--- `round::onward::spread_out` meets its contract. The loop's invariant: through what is left comes what comes of all live regions.
+-- `round::onward::spread_out` meets its contract. The loop's invariant: through the places that are left comes what comes of all live regions.
 use mathlib.Core.Path.{◌≡◌}
-use lib.ListN.{length}
-use Rattle.lanes.specs.Places.{visited}
-use Rattle.lanes.proofs.LowestBit.{Left}
-use Rattle.round.proofs.Going.{readying}
+use Rattle.lanes.specs.Going.{places_left}
+use Rattle.lanes.specs.Places.{in_turn, visited}
+use Rattle.round.proofs.Going.{Among, readying}
 use Rattle.round.proofs.onward.spread_out.Given as goal
 
-abbrev pub invariant-loop-left : goal.invariant-loop-left
-invariant-loop-left l =
-    Left l.left l.live × (length l.onward ≡ length l.initial.onward) × (visited (readying l.old) l.onward l.left ≡ visited (readying l.old) l.initial.onward l.live)
-
-abbrev pub decreases-loop-left : goal.decreases-loop-left
-decreases-loop-left l = l.left
+abbrev pub invariant-loop-k : goal.invariant-loop-k
+invariant-loop-k l = record {
+  among : Among l.live (places_left l.k-iterator);
+  comes : in_turn (readying l.old) l.onward (places_left l.k-iterator) ≡ visited (readying l.old) l.initial.onward l.live;
+}

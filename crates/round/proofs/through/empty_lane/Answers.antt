@@ -7,4 +7,4 @@ pub returns-in-0 : goal.returns-in-0
 returns-in-0 c = empty-none _ c.members.result (search rules) c.members.ensures (search rules)
 
 pub returns-in_default : goal.returns-in_default
-returns-in_default c = empty-some _ c.members.result _ (search rules) c.members.ensures (search rules) c.lowest.ensures
+returns-in_default c = empty-some _ c.members.result (search rules) c.members.ensures _ (search rules) c.lowest.ensures
