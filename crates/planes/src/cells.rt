@@ -22,6 +22,7 @@ fn give_rows(n: usize, planes: &[u64], cells: &mut [u8])
     requires { Square n (length cells.old) (length planes.now) }
     ensures { cells.new ≡ planes_matrix n planes.now }
 {
+    // By places: of what is written through `chunks_exact_mut` a proof keeps the lengths alone.
     for i in 0..n {
         give_row(block_at(planes, i), &mut cells[i * n..i * n + n]);
     }
