@@ -17,6 +17,7 @@ pub struct Numbers {
     pub count: usize,
 }
 
+// Here alone the five stand side by side: `tell_unique` speaks of them.
 pub fn tell(number: u32, first: usize, second: usize, third: usize, count: usize) -> Numbers
     ensures { told result ≡ answer number first second third count }
 {
@@ -36,7 +37,8 @@ fn crossing(number: usize) -> [u8; 4]
     ((number & 0xffff_ffff) as u32).to_be_bytes()
 }
 
-// An answer into an area of exactly 20 bytes, and its number handed back; with an area of another length that is 2.
+// An answer into an area of exactly 20 bytes, and its number handed back; with an area of another length that is 2, the document's
+// number for C, which `Answers` holds.
 pub fn put_answer(area: &mut [u8], numbers: Numbers) -> u32
     ensures { Answers (told numbers) area.old area.new result }
 {
