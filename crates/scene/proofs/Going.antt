@@ -27,17 +27,16 @@ use Rattle.scene.proofs.Reasons.{Declares, States, region_length, statement-leng
 use Rattle.scene.proofs.Reached.{at_end, at_refusal, ended_so, reached_far}
 
 -- the loop's invariant
-pub record Going (scene identifiers cells marks : List ℕ) (at count statements : ℕ) : Type 0 where
+pub record Going (scene : List ℕ) (areas : Areas) (at count statements : ℕ) : Type 0 where
   pub said : Said
   pub reached : Reached scene at said
   pub counted : count ≡ regions said
   pub numbered : statements ≡ length said.statements
-  pub held : Held starting_cell said (holding identifiers cells marks)
+  pub held : Held starting_cell said areas
 
 -- nothing is said yet
-pub going_begins : {before : Areas} (scene identifiers cells marks : List ℕ) → Lent before
-    → holding identifiers cells marks ≡ started universal before → Going scene identifiers cells marks 0 0 0
-going_begins scene identifiers cells marks lent e = record {
+pub going_begins : {before areas : Areas} (scene : List ℕ) → Lent before → areas ≡ started universal before → Going scene areas 0 0 0
+going_begins scene lent e = record {
   said = silent;
   reached = start;
   counted = refl;
@@ -45,16 +44,17 @@ going_begins scene identifiers cells marks lent e = record {
   held = held_begins universal lent e;
 }
 
-module _ {scene identifiers cells marks : List ℕ} {at count statements : ℕ} (w : Going scene identifiers cells marks at count statements) where
+module _ {scene : List ℕ} {areas : Areas} {at count statements : ℕ} (w : Going scene areas at count statements) where
   -- a statement has ten bytes
   pub going_passed : 10 * statements ≤ at
   going_passed = omega (arith, reached_far scene w.reached, w.numbered)
 
   -- the entries that the code judges by are the identifiers said so far, so its judgement is theirs
-  module _ {r : Result Record Refused} (judged : judged_of r ≡ record_at scene (naming (take count identifiers)) at) where
+  module _ {entries : List ℕ} (same : entries ≡ areas.identifiers) {r : Result Record Refused}
+      (judged : judged_of r ≡ record_at scene (naming (take count entries)) at) where
     known_as : {q : Result Record Refused} → r ≡ q → record_at scene w.said at ≡ judged_of q
     known_as d =
-        let front : take count identifiers ≡ w.said.identifiers = rw w.counted (held_front w.held) in
+        let front : take count entries ≡ w.said.identifiers = rw (same, w.counted) (held_front w.held) in
         sym (sym (ap judged_of d) ∙ judged ∙ ap (λ (l : List ℕ). record_at scene (naming l) at) front ∙ record_named scene w.said at)
 
     -- a region record
@@ -65,7 +65,7 @@ module _ {scene identifiers cells marks : List ℕ} {at count statements : ℕ} 
       pub region_fits : at + 5 ≤ length scene
       region_fits = omega (arith, declares_so.region.whole.fits, region_length)
 
-      pub going_region : Going scene (set identifiers count name.0) cells marks (at + 5) (count + 1) statements
+      pub going_region : Going scene (holding (set areas.identifiers count name.0) areas.cells areas.marks) (at + 5) (count + 1) statements
       going_region =
           record {
             said = declared w.said name.0;
@@ -90,8 +90,8 @@ module _ {scene identifiers cells marks : List ℕ} {at count statements : ℕ} 
       pub statement-fits : at + 10 ≤ length scene
       statement-fits = omega (arith, states_so.whole.fits, statement-length)
 
-      pub going_statement : Going scene identifiers (filed_in cells (made a b added.0))
-          (marked_in cells marks (made a b added.0) (statements + 1)) (at + 10) count (statements + 1)
+      pub going_statement : Going scene (holding areas.identifiers (filed_in areas.cells (made a b added.0))
+          (marked_in areas.cells areas.marks (made a b added.0) (statements + 1))) (at + 10) count (statements + 1)
       going_statement =
           record {
             said = stated w.said a b added.0;

@@ -1,5 +1,6 @@
 -- How the reading of a scene ends: what the code leaves is what `read` promises.
-use Rattle.std.proofs.Common.{◌≡◌, sym, ap, ◌∙◌, true, false, List, ℕ, ◌<◌, ◌≤◌, length, take, Result, Ok, Err, is_err}
+use Rattle.std.proofs.Common.{◌≡◌, sym, ap, ◌∙◌, true, false, List, ℕ, ◌≤◌, length, take, Result, Ok, Err, is_err}
+use Rattle.std.specs.Prelude.{OnErr}
 use Rattle.answer.specs.Ending.{answered}
 use Rattle.filing.specs.Said.{naming}
 use Rattle.filing.specs.Areas.{Areas, holding, Lent, are_lent, emptied, packed}
@@ -17,27 +18,23 @@ use Rattle.scene.specs.declared.record.Record.{Record}
 use Rattle.scene.specs.declared.record.Record.TheVariants as recorded
 use Rattle.scene.specs.declared.record.Refused.{Refused}
 use Rattle.scene.proofs.Numbered.{numbered, is_no_length}
-use Rattle.scene.proofs.Endings.{within_limit, over_limit, right-areas, wrong_areas}
+use Rattle.scene.proofs.Endings.{within_limit, right-areas, wrong_areas}
 use Rattle.scene.proofs.Answers.{Tells, tells, right_lengths}
 use Rattle.scene.proofs.Going.{Going, going_ends, going_refused}
 
--- a scene over the limit
-pub too_long : {scene : List ℕ} {before : Areas} → most_bytes < length scene → ReadInto scene before before (Err TooLong)
-too_long {scene} h = record { answer = rw (over_limit scene h); areas = tt }
-
-module _ {scene identifiers cells marks : List ℕ} {before : Areas} {at count statements : ℕ} (lent : Lent before) (short : length scene ≤ most_bytes)
-    (w : Going scene identifiers cells marks at count statements) {r : Result Record Refused}
-    (judged : judged_of r ≡ record_at scene (naming (take count identifiers)) at) where
-  pub ends_into : {cells' marks' : List ℕ} → r ≡ Ok recorded.End → cells' ≡ packed 0 count cells → marks' ≡ packed 0 count marks
-      → ReadInto scene before (holding identifiers cells' marks') (Ok count)
+module _ {scene : List ℕ} {areas before : Areas} {at count statements : ℕ} (lent : Lent before) (short : length scene ≤ most_bytes)
+    (w : Going scene areas at count statements) {entries : List ℕ} (same : entries ≡ areas.identifiers) {r : Result Record Refused}
+    (judged : judged_of r ≡ record_at scene (naming (take count entries)) at) where
+  pub ends_into : {cells' marks' : List ℕ} → r ≡ Ok recorded.End → cells' ≡ packed 0 count areas.cells
+      → marks' ≡ packed 0 count areas.marks → ReadInto scene before (holding areas.identifiers cells' marks') (Ok count)
   unfolding areas_after
   ends_into d e m =
-      let o : read_scene scene ≡ accepted_said w.said = within_limit scene short ∙ going_ends w judged d in
+      let o : read_scene scene ≡ accepted_said w.said = within_limit scene short ∙ going_ends w same judged d in
       record { answer = rw (o, w.counted); areas = rw o (rw (e, m, w.counted) (held_ends w.held before lent)) }
 
   pub refused_into : {refused : Refused} {after : Areas} → r ≡ Err refused → ReadInto scene before after (Err (unread_of refused))
   refused_into {refused} d =
-      let o : read_scene scene ≡ refused_at (number_of refused.refusal) refused.offset = within_limit scene short ∙ going_refused w judged d in
+      let o : read_scene scene ≡ refused_at (number_of refused.refusal) refused.offset = within_limit scene short ∙ going_refused w same judged d in
       record { answer = rw o; areas = tt }
 
 -- 2: areas as they were
@@ -53,7 +50,7 @@ module _ {scene : List ℕ} {before after : Areas} (lent : Lent before) where
   accepted_reads (Err e) h r = cc
 
   pub refused_reads : (reading : Result ℕ Unread) → is_err reading ≡ true → {between : Areas} → ReadInto scene before between reading
-      → Lent between → after ≡ emptied between → Reads scene before after reading
+      → OnErr reading (Lent between) → after ≡ emptied between → Reads scene before after reading
   unfolding areas_after
   refused_reads (Ok n) h r l e = cc
   refused_reads (Err u) h {between} r l e =
@@ -65,3 +62,8 @@ module _ {scene : List ℕ} {before after : Areas} (lent : Lent before) where
       emptied_so WrongLength t = absurd (right_lengths scene lent t)
       emptied_so TooLong t = rw t
       emptied_so (RefusedAt refusal offset) t = rw (t, is_no_length (numbered refusal))
+
+-- whoever lent the areas sees what they hold
+pub reads_as : {scene : List ℕ} {before after lent : Areas} {reading : Result ℕ Unread} → lent ≡ after
+    → Reads scene before after reading → Reads scene before lent reading
+reads_as e r = rw e r

@@ -14,7 +14,7 @@ ghost use Rattle.scene.specs.Numbers.{number_of};
 ghost use Rattle.scene.specs.Reads.{Reads};
 ghost use Rattle.scene.specs.Span.{RefusedPart};
 
-use filing::{LENT_CELLS, LENT_IDENTIFIERS};
+use filing::{LENT_CELLS, LENT_IDENTIFIERS, LentAreas};
 use records::read_records;
 use span::span_of;
 
@@ -73,12 +73,17 @@ pub fn read(
     ensures { Reads scene.now (holding identifiers.old cells.old marks.old)
         (holding identifiers.new cells.new marks.new) result }
 {
-    if !filing::are_lent(identifiers, cells, marks) {
+    let mut areas = LentAreas {
+        identifiers,
+        cells,
+        marks,
+    };
+    if !areas.are_lent() {
         return Err(Unread::WrongLength);
     }
-    let reading = read_records(scene, identifiers, cells, marks);
+    let reading = read_records(scene, &mut areas);
     if reading.is_err() {
-        filing::clear(identifiers, cells, marks);
+        areas.clear();
     }
     reading
 }

@@ -64,9 +64,8 @@ impl Begun<'_> {
             (record { refusal = Refusal.NotDeclared; offset = self.now.at }) }
     {
         let identifier = Identifier(number_at(self.scene, offset));
-        place_of(self.declared, self.declared.len(), identifier).ok_or(self.refused(
-            Refusal::NotDeclared,
-        ))
+        let found = place_of(self.declared, self.declared.len(), identifier);
+        found.ok_or(self.refused(Refusal::NotDeclared))
     }
 
     // Behind the kind stands the identifier.

@@ -14,7 +14,7 @@ use std::ops::Range;
 fn record_length(byte: u8) -> usize
     ensures { result ≡ length_of byte }
 {
-    Kind::try_from(byte).map_or(1, |kind| kind.length())
+    Kind::try_from(byte).map_or(1, Kind::length)
 }
 
 // The bytes of a record that is refused at an offset: its full length or what remains of it, and everything left for 11.
