@@ -52,7 +52,7 @@ fn composed_with<const P: usize>(w: [u64; 8]) -> [u64; 8]
 }
 
 // The relation with this place in the order of the bits, composed with the sets of all lanes; no relation has a place above 7.
-// A match, since by a row that is looked up a call takes four times as long (x86-64, both in one run: 17 and 65 ns).
+// A match on purpose: by a row that is looked up, a round of 16 regions takes 4.5 microseconds and not 1.2 (both in one run, x86-64).
 pub fn composed(relation: usize, b: [u64; 8]) -> [u64; 8]
     ensures { result ≡ wired relation b }
 {

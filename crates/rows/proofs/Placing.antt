@@ -9,7 +9,7 @@ use native.Mathlib.Omega.{arith}
 use borrow.Author.Tests.{le-leb, lt-leb}
 use lib.Bits.{bit_or}
 use lib.Dec.{T}
-use lib.Seq.{take_at, take-take}
+use Rattle.std.proofs.lemmas.List.{get_or-take, length-take-le}
 use lib.ListN.{length, get_or, take, replicate, get_or-eq_default}
 use lib.Pow.{shl_exact, pow_pos}
 use Rattle.relation.specs.Sets.{has, universal, union_of}
@@ -18,7 +18,7 @@ use Rattle.relation.proofs.Member.{ext, has-unite}
 use Rattle.lists.specs.Tabled.{tabled}
 use Rattle.lanes.specs.Lists.{list_of, mask_of}
 use Rattle.lanes.specs.Words.{set_at}
-use Rattle.lanes.proofs.Lists.{list_length, list_at, list_same, list_of_words, list_split, part_stored}
+use Rattle.lanes.proofs.Lists.{list_length, list_at, list_same, list_of_words, part_stored}
 use Rattle.lanes.proofs.Made.{by_places}
 use Rattle.lanes.proofs.Sets.{has_mask, mask_below, set_is}
 use Rattle.lanes.proofs.Shifts.{has_shr, has_shl, has_shl_below, has-low, has_beyond}
@@ -129,23 +129,17 @@ lane_byte w b at g u h =
     ∙ ap (λ (x : ℕ). has x g) (list_at 8 lanes r l)
     ∙ has-low (get_or w r 0 / 2 ^ at) 8 g h ∙ has_shr (get_or w r 0) at g)))
 
--- the cells of one block more
-pub block_given : (w row b rest : List ℕ) (at next : ℕ) → next ≡ at + 8 → take at row ≡ list_of at (set_at w) → b ≡ turned_of (eight_from at w)
-    → take next (take at row ++ (b ++ rest)) ≡ list_of next (set_at w)
+-- the cells of one block more, or of the first `count` lanes of one
+pub block_given : (w cells eight b rest : List ℕ) (at next count : ℕ) → next ≡ at + count → count ≤ 8 → take at cells ≡ list_of at (set_at w)
+    → eight ≡ take count b → b ≡ turned_of (eight_from at w) → take next (take at cells ++ (eight ++ rest)) ≡ list_of next (set_at w)
 unfolding turned_of
-block_given w row b rest at next e given u =
-    let eight : next - at ≡ 8 = omega arith in
-    part_stored row b rest (set_at w) at next (omega arith) given
-    (by_places (next - at) (λ g. set_at w (at + g)) b (ap length u ∙ list_length 8 _ ∙ sym eight)
-    (λ g l. lane_byte w b at g u (omega arith)))
-
--- the first n of at least as many cells that are made
-pub row_given : (w row : List ℕ) (n at : ℕ) → n ≤ at → take at row ≡ list_of at (set_at w) → take n row ≡ row_cells n w
-unfolding row_cells
-row_given w row n at h e =
-    let whole : n + (at - n) ≡ at = omega arith in
-    sym (take-take n at row h) ∙ ap (take n) (e ∙ ap (λ (k : ℕ). list_of k (set_at w)) (sym whole) ∙ list_split n (at - n) (set_at w))
-    ∙ take_at (list_of n (set_at w)) (list_of (at - n) (λ i. set_at w (n + i))) n (list_length n (set_at w))
+block_given w cells eight b rest at next count e few given part u =
+    let some : next - at ≡ count = omega arith in
+    let long : length b ≡ 8 = ap length u ∙ list_length 8 _ in
+    part_stored cells eight rest (set_at w) at next (omega arith) given
+    (part
+    ∙ by_places (next - at) (λ g. set_at w (at + g)) (take count b) (length-take-le count b (omega arith) ∙ sym some)
+    (λ g l. get_or-take count b g 0 (omega arith) ∙ lane_byte w b at g u (omega arith)))
 
 -- ---- a row and its words
 

@@ -53,12 +53,15 @@ fn give_lanes(w: [u64; 8], cells: &mut [u8])
     requires { length cells.old ≤ 64 }
     ensures { cells.new ≡ row_cells (length cells.old) w }
 {
-    let mut row = [0u8; 64];
-    for block in 0..cells.len().div_ceil(8) {
+    for block in 0..cells.len() / 8 {
         let at = 8 * block;
-        row[at..at + 8].copy_from_slice(&turned(eight_lanes(w, at)));
+        cells[at..at + 8].copy_from_slice(&turned(eight_lanes(w, at)));
     }
-    cells.copy_from_slice(&row[..cells.len()]);
+    let at = cells.len() / 8 * 8;
+    if at < cells.len() {
+        let left = cells.len() - at;
+        cells[at..].copy_from_slice(&turned(eight_lanes(w, at))[..left]);
+    }
 }
 
 // The first lanes as cells, as many as there are cells; more than 64 cells stay as they are.

@@ -5,4 +5,4 @@ use Rattle.lanes.specs.Words.{set_at}
 use Rattle.rows.proofs.cells.give_lanes.Given as goal
 
 abbrev pub invariant-loop-block : goal.invariant-loop-block
-invariant-loop-block l = take (8 * l.block) l.row ≡ list_of (8 * l.block) (set_at l.w)
+invariant-loop-block l = take (8 * l.block) l.cells ≡ list_of (8 * l.block) (set_at l.w)
