@@ -1,12 +1,11 @@
--- The list of f 0, .., f (n - 1): its length, its elements, and how a loop that stores one after the other makes it.
+-- The list of f 0, .., f (n - 1): its length, its elements, and how a loop that stores part after part makes it.
 use Prim.Native.Nat.{ℕ, ◌+◌, ◌-◌, ◌<◌, ◌≤◌}
 use mathlib.Core.Path.{◌≡◌, refl, sym, ap, ap₂, ◌∙◌}
-use mathlib.Core.List.{List, [], ◌∷◌, ◌++◌, append_assoc}
-use native.Mathlib.Nat.{zero-add, add-zero}
-use native.Mathlib.Numerals.{add-one}
+use mathlib.Core.List.{List, [], ◌++◌, append_assoc}
+use native.Mathlib.Nat.{zero-add}
 use native.Mathlib.Omega.{arith}
-use lib.ListN.{length, get_or, take, set, length-append, get_or-append}
-use lib.Seq.{ext_get_or, take_all, take_at, take-suc-set, get_or-append-add}
+use lib.ListN.{length, get_or, take, length-append, get_or-append}
+use lib.Seq.{ext_get_or, take_all, take_at, get_or-append-add}
 use Rattle.lists.specs.Tabled.{tabled}
 use Rattle.lists.proofs.TabledLaws.{length-tabled, get_or-tabled}
 use Rattle.lists.proofs.Splits.{split_lt}
@@ -45,17 +44,11 @@ list_split n m f =
     sym (ap (λ (x : ℕ). get_or (list_of n f ++ rest) x 0) (sym place ∙ ap (λ (x : ℕ). x + (i - n)) (sym front))
     ∙ get_or-append-add (list_of n f) rest (i - n) 0 ∙ list_at m (λ i. f (n + i)) (i - n) (omega arith) ∙ ap f place)))
 
--- ---- a loop that stores f 0, f 1, ..
+-- ---- what a loop that stores f 0, f 1, .. has stored
 
 pub none-stored : (f : ℕ → ℕ) → [] ≡ list_of 0 f
 unfolding tabled
 none-stored f = refl
-
-pub one_stored : (w : List ℕ) (f : ℕ → ℕ) (i v : ℕ) → i < length w → take i w ≡ list_of i f → v ≡ f i → take (i + 1) (set w i v) ≡ list_of (i + 1) f
-unfolding tabled
-one_stored w f i v h e q =
-    ap (λ (k : ℕ). take k (set w i v)) (add-one i) ∙ take-suc-set w i v h
-    ∙ ap₂ (λ (l : List ℕ) (x : ℕ). l ++ (x ∷ [])) e (q ∙ ap f (sym (add-zero i))) ∙ sym (list_split i 1 f)
 
 pub all_stored : (n : ℕ) (w : List ℕ) (f : ℕ → ℕ) (i : ℕ) → length w ≡ n → i ≡ n → take i w ≡ list_of i f → w ≡ list_of n f
 all_stored n w f i e q t = sym (take_all i w (omega arith)) ∙ t ∙ ap (λ (k : ℕ). list_of k f) q

@@ -4,7 +4,7 @@ use mathlib.Core.Path.{◌≡◌, refl, sym, ap, ap₂, ◌∙◌}
 use mathlib.Core.Logic.{⊎_elim}
 use mathlib.Core.Bool.{Bool, true, false, cond, not, ◌&&◌, and_self, and-false, and-true}
 use mathlib.Core.List.{List, [], ◌∷◌, ◌++◌}
-use native.Mathlib.Nat.{mod-lt, div-add-mod', not-suc-le-zero, le_of_suc-le-suc, le_trans, le-suc, zero-lt-suc, lt_of_le_of_lt, eq-or-lt_of_le, le_refl}
+use native.Mathlib.Nat.{mod-lt, div-add-mod', not-suc-le-zero, le_of_suc-le-suc, le_trans, le-suc, zero-lt-suc, lt_of_le_of_lt, eq-or-lt_of_le}
 use native.Mathlib.Omega.{arith}
 use lib.Arith.{lt-one}
 use lib.Bits.{and_le_r}
@@ -14,7 +14,7 @@ use lib.Dec.{eqb, eqb-suc-zero, eqb-suc-suc, eqb→eq, eqb_refl}
 use Rattle.relation.specs.Sets.{has}
 use Rattle.relation.proofs.Tests.{same}
 use Rattle.relation.proofs.Member.{half_below, has_half, has_odd, has-intersect}
-use Rattle.lanes.specs.Places.{places_below, places, lowest_of, without_lowest, in_turn, visited}
+use Rattle.lanes.specs.Places.{places_below, places, lowest_of, without_lowest}
 
 -- ---- the lowest bit
 
@@ -153,36 +153,3 @@ fewer_places m k rest h n e q = let next = ap length (places_next m k rest h n e
 
 pub places_of_none : (m : ℕ) → m ≡ 0 → places m ≡ []
 places_of_none m e = ap places e ∙ places-none
-
--- ---- a loop that takes the lowest bit away until none is left: what is still to be visited from a comes to the same
-
-module _ {A : Type 0} (step : A → ℕ → A) where
-  -- k and rest are what `lowest` and `without_lowest` answer of m
-  pub visited_one : (a : A) (m k rest : ℕ) → Lowest m → k ≡ lowest_of m → rest ≡ without_lowest m
-      → visited step (step a k) rest ≡ visited step a m
-  unfolding visited in_turn
-  visited_one a m k rest f e q =
-      ap₂ (λ (x y : ℕ). in_turn step (step a x) (places y)) e q ∙ ap (in_turn step a) (sym (places-first m f))
-
-  pub visited-none : (a : A) (m : ℕ) → m ≡ 0 → visited step a m ≡ a
-  unfolding visited in_turn
-  visited-none a m e = ap (λ (k : ℕ). in_turn step a (places k)) e ∙ ap (in_turn step a) places-none
-
--- ---- what is left of a word whose bits are taken away, lowest first
-
-pub record Left (left whole : ℕ) : Type 0 where
-  pub le : left ≤ whole
-  pub part : (k : ℕ) → has left k ≡ true → has whole k ≡ true
-
-pub left_start : (m : ℕ) → Left m m
-left_start m = record { le = le_refl m; part = λ k e. e }
-
-pub left_next : (left whole rest : ℕ) → Lowest left → rest ≡ without_lowest left → Left left whole → Left rest whole
-left_next left whole rest f e l = record {
-  le = let less = f.less in omega (arith, l.le);
-  part = λ k h. l.part k (first_true (has left k) (not (eqb k (lowest_of left))) (sym (f.rest k) ∙ ap (λ (m : ℕ). has m k) (sym e) ∙ h));
-}
-  where
-    first_true : (a b : Bool) → a && b ≡ true → a ≡ true
-    first_true true b e = refl
-    first_true false b e = e
