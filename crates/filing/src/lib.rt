@@ -104,7 +104,7 @@ impl LentAreas<'_> {
     }
 }
 
-// The place that an identifier names among the first `count` entries.
+// The place that an identifier names among the first `count` entries. `count` is no length: the clause answers for one past the end.
 #[tactic(auto, using(crate::proofs::PlaceLaws::place_front))]
 pub fn place_of(identifiers: &[u32], count: usize, wanted: Identifier) -> Option<Place>
     ensures { result ≡ place_of (naming (take count identifiers.now)) wanted }
@@ -112,7 +112,7 @@ pub fn place_of(identifiers: &[u32], count: usize, wanted: Identifier) -> Option
     lookup(identifiers, count, wanted)
 }
 
-// An entry at a place, if the area has one there.
+// An entry at a place, if the area has one there. By index, since `get_mut` does not say that the area stays where it has none.
 fn put<T: Copy>(area: &mut [T], at: usize, entry: T)
     ensures { area.new ≡ set area.old at entry }
 {
@@ -122,6 +122,7 @@ fn put<T: Copy>(area: &mut [T], at: usize, entry: T)
 }
 
 // What belongs at a place once the rows have n entries: the entry that stands there then, and nothing past the last.
+#[tactic(auto, using(crate::proofs::Packing::packed_read, crate::proofs::Packing::packed_past))]
 fn packed_entry<T: Copy>(entries: &[T], n: usize, at: usize, nothing: T) -> T
     requires { Rows entries.now n }
     ensures { result ≡ get_or (packed nothing n entries.now) at nothing }
@@ -136,6 +137,7 @@ fn packed_entry<T: Copy>(entries: &[T], n: usize, at: usize, nothing: T) -> T
 }
 
 // In place. No entry moves towards the end, so none is lost.
+#[tactic(auto, using(crate::proofs::Packing::packing_more))]
 fn pack_rows<T: Copy>(entries: &mut [T], n: usize, nothing: T)
     requires { Rows entries.old n }
     ensures { entries.new ≡ packed nothing n entries.old }
