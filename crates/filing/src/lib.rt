@@ -20,7 +20,7 @@ pub const LENT_IDENTIFIERS: usize = 64;
 // The cells that are lent: 64 rows of 64.
 pub const LENT_CELLS: usize = 4096;
 
-// The areas that a caller lends: identifiers by place, cells, and a mark for each cell. They are his: each call leaves them where they are.
+// The areas that a caller lends: identifiers by place, cells, and a mark for each cell. They stay the caller's.
 #[derive(Drop)]
 pub struct LentAreas<'a> {
     pub identifiers: &'a mut [u32],
