@@ -1,5 +1,5 @@
 -- The report of a refinement, by its verdict.
-use mathlib.Core.Path.{◌≡◌, sym, ap, ◌∙◌, subst}
+use mathlib.Core.Path.{◌≡◌, refl, sym, ap, ◌∙◌, subst}
 use mathlib.Core.List.{List}
 use Prim.Native.Nat.{ℕ, ◌*◌, ◌≤◌, ◌<◌}
 use native.Mathlib.Nat.{mul-le-mul}
@@ -25,17 +25,19 @@ use Rattle.network.specs.declared.Area.{Area}
 use Rattle.network.specs.declared.Contradiction.{Contradiction}
 use Rattle.network.specs.declared.Start.{Start}
 use Rattle.network.specs.declared.Verdict.{Verdict}
-use Rattle.network.specs.declared.Verdict.TheVariants.{Accepted, Refused}
+use Rattle.network.specs.declared.Verdict.TheVariants.{Accepted, Refused, Unfinished, Unprepared, OutOfRange, WrongLength}
 use Rattle.network.specs.Numbers.{answer_of}
 use Rattle.network.specs.Carries.{Carries}
 use Rattle.network.specs.Refined.{Refined, leaves}
 use Rattle.network.specs.Prepared.{Prepared}
 use Rattle.network.specs.Handed.{Handed}
 use Rattle.network.proofs.Consequences.{refine_carries}
-use Rattle.text.specs.Put.{Adds}
+use Rattle.text.specs.declared.Page.{Page}
+use Rattle.text.specs.Put.{AddsOn}
 use Rattle.text.proofs.PutLaws.{adds-adds}
-use Rattle.report_text.specs.Report.{accepted_line, pair_lines, name_of, answer_line, refined_report}
-use Rattle.report_text.specs.Inner.{Paired, Reports}
+use Rattle.report_text.specs.declared.Stated.{Stated}
+use Rattle.report_text.specs.Report.{accepted_line, pair_lines, name_of, answer_line}
+use Rattle.report_text.specs.Inner.{report_by, Reports}
 use Rattle.report_text.proofs.LineLaws.{renamed}
 use Rattle.report_text.proofs.Short.{refusal-short, accepted_report_short}
 use Rattle.report_text.proofs.Verdicts.{HandedBack, handed-back, refused_report, contradiction_line, contradicted}
@@ -52,11 +54,8 @@ answer-short identifiers a =
 abbrev area : List ℕ
 area = replicate 4096 0
 
--- what the call is made with: the stated cells, identifiers of 32 bits and marks of 16
-pub record Call (n : ℕ) (identifiers stated marks : List ℕ) : Type 0 where
-  pub stated_so : Square n stated
-  pub identifiers-small : (k : ℕ) → get_or identifiers k 0 < 4294967296
-  pub marks-small : (k : ℕ) → get_or marks k 0 < 65536
+pub stated_so : (s : Stated) → Square s.n s.cells.now
+stated_so s = record { some = s.some; few = s.few; size = s.cells_square }
 
 -- which are long enough
 lent_range : {n : ℕ} {stated : List ℕ} → Square n stated → InRange n stated (length area) (length area)
@@ -64,39 +63,43 @@ lent_range {n} s =
     let long : n * n ≤ length area = omega (arith, length-replicate {A = ℕ} 4096 0, mul-le-mul s.few s.few) in
     record { square = s; first-long = long; second-long = long }
 
-module _ {n : ℕ} {identifiers stated marks first' second' : List ℕ} {verdict : Verdict} (c : Call n identifiers stated marks)
-    (v : Refined n stated area area first' second' verdict) where
-  range : InRange n stated (length area) (length area)
-  range = lent_range c.stated_so
+carries-no_other : (n : ℕ) (verdict : Verdict) → Carries n verdict
+    → ((regions rounds : ℕ) (named : Area) → verdict ≡ Accepted regions rounds named → ⊥)
+    → ((contradiction : Contradiction) (rounds : ℕ) → verdict ≡ Refused contradiction rounds → ⊥) → ⊥
+carries-no_other n (Accepted regions rounds named) k a r = a regions rounds named refl
+carries-no_other n (Refused contradiction rounds) k a r = r contradiction rounds refl
+carries-no_other n (Unfinished rounds named) k a r = k
+carries-no_other n Unprepared k a r = k
+carries-no_other n OutOfRange k a r = k
+carries-no_other n WrongLength k a r = k
+
+module _ (s : Stated) {first' second' : List ℕ} {verdict : Verdict} (v : Refined s.n s.cells.now area area first' second' verdict) where
+  range : InRange s.n s.cells.now (length area) (length area)
+  range = lent_range (stated_so s)
 
   -- the network that an acceptance hands back
   pub accepted-network : {regions rounds : ℕ} {named : Area} {part : List ℕ} {at_first at_second at_part : ℕ × ℕ}
       → verdict ≡ Accepted regions rounds named → Handed first' second' at_first at_second (Accepted regions rounds named) part at_part
-      → HandedBack n stated rounds part
+      → HandedBack s.n s.cells.now rounds part
   accepted-network {part = part} {at_first = at_first} {at_second = at_second} {at_part = at_part} e h =
       let back : Handed first' second' at_first at_second verdict part at_part = rw e h in handed-back range v e back
 
-  -- any other verdict's line
-  pub refused_reports : {other : Verdict} {b₀ b₁ : List ℕ} {next : ℕ} → verdict ≡ other → ((answer_of other).number ≡ 0 → ⊥)
-      → Adds (answer_line identifiers (answer_of other)) b₀ 0 b₁ next
-      → Reports (refined_report n identifiers stated marks (refine n stated)) b₀ b₁ next
-  refused_reports {other} e z a =
-      let same = refused_report range (subst (Refined n stated area area first' second') e v) identifiers marks z in
+  pub contradiction_reports : {contradiction : Contradiction} {rounds : ℕ} {page page' : Page}
+      → verdict ≡ Refused contradiction rounds → AddsOn (answer_line s.identifiers.now (answer_of (Refused contradiction 0))) page page'
+      → Reports (report_by s (refine s.n s.cells.now)) page page'
+  contradiction_reports {contradiction} {rounds} e a =
+      let other : Verdict = Refused contradiction rounds in
+      let same = refused_report range (subst (Refined s.n s.cells.now area area first' second') e v) s.identifiers.now s.marks.now
+      (contradicted contradiction rounds) in
       record {
-        adds = renamed same a;
-        short = subst (λ (t : List ℕ). length t ≤ 131072) same (answer-short identifiers (answer_of other));
+        adds = renamed (contradiction_line s.identifiers.now contradiction rounds ∙ same) a;
+        short = subst (λ (t : List ℕ). length t ≤ 131072) same (answer-short s.identifiers.now (answer_of other));
       }
 
-  -- a call within its limits never ends otherwise
-  pub never_reports : {other : Verdict} {b₀ b₁ : List ℕ} {next : ℕ} → verdict ≡ other → (Carries n other → ⊥)
-      → Reports (refined_report n identifiers stated marks (refine n stated)) b₀ b₁ next
-  never_reports e none = absurd (none (subst (Carries n) e (refine_carries range v)))
-
-  pub contradiction_reports : {contradiction : Contradiction} {rounds : ℕ} {b₀ b₁ : List ℕ} {next : ℕ}
-      → verdict ≡ Refused contradiction rounds → Adds (answer_line identifiers (answer_of (Refused contradiction 0))) b₀ 0 b₁ next
-      → Reports (refined_report n identifiers stated marks (refine n stated)) b₀ b₁ next
-  contradiction_reports {contradiction} {rounds} e a =
-      refused_reports e (contradicted contradiction rounds) (renamed (contradiction_line identifiers contradiction rounds) a)
+  -- the call is within its limits, so it never ends otherwise
+  pub never_otherwise : ((regions rounds : ℕ) (named : Area) → verdict ≡ Accepted regions rounds named → ⊥)
+      → ((contradiction : Contradiction) (rounds : ℕ) → verdict ≡ Refused contradiction rounds → ⊥) → ⊥
+  never_otherwise = carries-no_other s.n verdict (refine_carries range v)
 
 -- every cell of a network is a byte, and so is what counts past its end
 small-sets : {n : ℕ} {stated : List ℕ} {rounds : ℕ} {network : List ℕ} → HandedBack n stated rounds network → (k : ℕ) → get_or network k 0 < 256
@@ -106,54 +109,45 @@ small-sets {n} {network = network} w k =
 
 -- ---- an acceptance
 
--- what is known of an accepted matrix
-pub record AcceptedMatrix (n : ℕ) (stated network : List ℕ) (rounds : ℕ) : Type 0 where
-  pub stated_so : Square n stated
-  pub ending : refine n stated ≡ accepted network rounds
+module _ (s : Stated) {network : List ℕ} {rounds : ℕ} (ending : refine s.n s.cells.now ≡ accepted network rounds) where
+  pub cells-few : s.n * s.n ≤ 4096
+  cells-few = mul-le-mul s.few s.few
 
-module _ {n : ℕ} {stated network : List ℕ} {rounds : ℕ} (a : AcceptedMatrix n stated network rounds) where
-  pub cells-few : n * n ≤ 4096
-  cells-few = mul-le-mul a.stated_so.few a.stated_so.few
+  pub network-square : length network ≡ s.n * s.n
+  network-square = (subst (Ends s.n s.cells.now) ending (refine_ends s.n s.cells.now)).largest.network.size
 
-  -- n² cells and n² marks beside the cells of the network
-  pub network_paired : {cells marks : List ℕ} → length cells ≡ n * n → length marks ≡ n * n → Paired n cells network marks
-  network_paired long marked = record {
-    regions = record { some = a.stated_so.some; few = a.stated_so.few; size = long };
-    refined = (subst (Ends n stated) a.ending (refine_ends n stated)).largest.network.size;
-    marked = marked;
-  }
-
-  module _ {first' second' : List ℕ} {start : Start} (prepares : Prepared n stated area area first' second' start) where
+  module _ {first' second' : List ℕ} {start : Start} (prepares : Prepared s.n s.cells.now area area first' second' start) where
     -- prepared, the first area has the arc stage in front
-    pub arcs_front : take (n * n) first' ≡ prepared n stated
+    pub arcs_front : take (s.n * s.n) first' ≡ prepared s.n s.cells.now
     unfolding leaves
     arcs_front =
+        let n : ℕ = s.n in
+        let stated : List ℕ = s.cells.now in
         let size : length (prepared n stated) ≡ n * n = length-arc n (node n stated) in
         let ended : readied n stated (length area) (length area) ≡ accepted (prepared n stated) 0 =
-        readied-ending n stated (length area) (length area) (accepted-readied (lent_range a.stated_so) a.ending) in
+        readied-ending n stated (length area) (length area) (accepted-readied (lent_range (stated_so s)) ending) in
         ap (take (n * n)) (prepares.in_first ∙ ap (λ (e : Ending (List ℕ)). leaves n e area) ended)
         ∙ take-laid (n * n) (prepared n stated) area (omega (arith, size))
         ∙ take_all (n * n) (prepared n stated) (omega (arith, size))
 
-    pub arcs-long : length (take (n * n) first') ≡ n * n
-    arcs-long = ap length arcs_front ∙ length-arc n (node n stated)
+    pub arcs-square : length (take (s.n * s.n) first') ≡ s.n * s.n
+    arcs-square = ap length arcs_front ∙ length-arc s.n (node s.n s.cells.now)
 
     -- the first line, and the lines of the pairs
-    pub network-adds : (identifiers marks : List ℕ) {b₀ b₁ b₂ : List ℕ} {a₁ a₂ : ℕ} → Adds (accepted_line n rounds) b₀ 0 b₁ a₁
-        → Adds (pair_lines (n * n) n identifiers (take (n * n) first') network marks) b₁ a₁ b₂ a₂
-        → Adds (refined_report n identifiers stated marks (accepted network rounds)) b₀ 0 b₂ a₂
-    network-adds identifiers marks p q = adds-adds p (rw (← arcs_front) q)
+    pub network-adds : {p₀ p₁ p₂ : Page} → AddsOn (accepted_line s.n rounds) p₀ p₁
+        → AddsOn (pair_lines (s.n * s.n) s.n s.identifiers.now (take (s.n * s.n) first') network s.marks.now) p₁ p₂
+        → AddsOn (report_by s (accepted network rounds)) p₀ p₂
+    network-adds p q = adds-adds p (rw (← arcs_front) q)
 
 -- its report
-pub accepted_reports : {n : ℕ} {identifiers stated marks : List ℕ} {rounds : ℕ} {network b₀ b₁ : List ℕ} {next : ℕ}
-    → Call n identifiers stated marks → HandedBack n stated rounds network
-    → Adds (refined_report n identifiers stated marks (accepted network rounds)) b₀ 0 b₁ next
-    → Reports (refined_report n identifiers stated marks (refine n stated)) b₀ b₁ next
-accepted_reports {n} {identifiers} {stated} {marks} {rounds} {network} c w adds =
-    let same = ap (refined_report n identifiers stated marks) w.ending in
+pub accepted_reports : (s : Stated) {rounds : ℕ} {network : List ℕ} {page page' : Page}
+    → HandedBack s.n s.cells.now rounds network → AddsOn (report_by s (accepted network rounds)) page page'
+    → Reports (report_by s (refine s.n s.cells.now)) page page'
+accepted_reports s {rounds} {network} w adds =
+    let same = ap (report_by s) w.ending in
     record {
       adds = renamed (sym same) adds;
       short = rw same
-          (accepted_report_short n identifiers (prepared n stated) network marks
-          (record { identifiers-small = c.identifiers-small; sets-small = small-sets w; marks-small = c.marks-small }) rounds c.stated_so.few);
+          (accepted_report_short s.n s.identifiers.now (prepared s.n s.cells.now) network s.marks.now
+          (record { identifiers-small = s.identifiers_fit; sets-small = small-sets w; marks-small = s.marks_fit }) rounds s.few);
     }

@@ -3,94 +3,135 @@
 
 mod lines;
 
-ghost use Rattle.std.specs.Prelude.{◌≡◌};
+ghost use Rattle.std.specs.Prelude.{◌≡◌, ℕ, ◌*◌, ◌^◌, ◌≤◌, ◌<◌, length, get_or};
 ghost use Rattle.relation.specs.Sets.{size};
 ghost use Rattle.answer.specs.Ending.{accepted};
-ghost use Rattle.matrix.specs.Square.{Square};
 ghost use Rattle.refinement.specs.Refine.{refine};
-ghost use Rattle.text.specs.Put.{Adds};
-ghost use Rattle.report_text.specs.Class.{class_of};
-ghost use Rattle.report_text.specs.Report.{refined_report, Reported};
-ghost use Rattle.report_text.specs.Inner.{Reports};
+ghost use Rattle.text.specs.Put.{AddsOn};
+ghost use Rattle.report_text.specs.Class.{letter_of, class_of};
+ghost use Rattle.report_text.specs.Report.{Reported};
 
 use filing::{LENT_CELLS, LENT_IDENTIFIERS};
-use lines::{put_accepted, put_contradiction, put_pairs, put_refusal};
+use lines::{Pairs, put_accepted, put_contradiction, put_refusal};
 use network::Verdict;
 use relation::RelationSet;
 use scene::Reading;
-use scene::format::MOST_BYTES;
+use text::Page;
 
-// The class of a pair, by what was stated of it in both directions together: O where that is one relation, D where one is left
-// of more, E where fewer are left, S where all are left, U where nothing is known.
-pub fn class_of(arc: RelationSet, refined: RelationSet) -> u8
-    ensures { result ≡ class_of (size arc.0) (size refined.0) }
-{
-    let before = arc.size();
-    let after = refined.size();
-    if before == 1 {
-        return b'O';
-    }
-    if after == 1 {
-        return b'D';
-    }
-    if after < before {
-        return b'E';
-    }
-    if after < 8 {
-        return b'S';
-    }
-    b'U'
+// How much is known of a pair, by what was stated of it in both directions together.
+#[derive(Clone, Copy, PartialEq, Eq, Debug)]
+pub enum Class {
+    // One relation was stated.
+    Observed,
+    // One is left of more.
+    Determined,
+    // Fewer are left.
+    Enhanced,
+    // All that were stated are left.
+    AsStated,
+    // All eight are left: nothing is known.
+    Unknown,
 }
 
-// The report of an accepted matrix; the arc stage that its letters go by is made by preparing it once more.
-fn put_network(
-    buffer: &mut [u8],
-    n: usize,
-    identifiers: &[u32],
-    stated: &[u8],
-    marks: &[u16],
-    network: &[u8],
-    rounds: usize,
-) -> usize
-    requires { Square n stated.now × Square n marks.now × (refine n stated.now ≡ accepted network.now rounds) }
-    ensures { Adds (refined_report n identifiers.now stated.now marks.now (accepted network.now rounds)) buffer.old 0 buffer.new result }
-{
-    let mut first = [0u8; LENT_CELLS];
-    let mut second = [0u8; LENT_CELLS];
-    network::prepare(n, stated, &mut first, &mut second);
-    let arcs = &first[..n * n];
-    let next = put_accepted(buffer, n, rounds);
-    put_pairs(buffer, next, n, identifiers, arcs, network, marks)
-}
+// The letter of a class in a report.
+impl From<Class> for u8 {
+    ghost use Rattle.report_text.specs.Class.{letter_of};
 
-// The report of n regions with the cells that were stated of them and their marks.
-fn put_refined(
-    buffer: &mut [u8],
-    n: usize,
-    identifiers: &[u32],
-    stated: &[u8],
-    marks: &[u16],
-) -> usize
-    requires { Square n stated.now × Square n marks.now }
-    ensures { Reports (refined_report n identifiers.now stated.now marks.now (refine n stated.now)) buffer.old buffer.new result }
-{
-    let mut first = [0u8; LENT_CELLS];
-    let mut second = [0u8; LENT_CELLS];
-    let verdict = network::refine(n, stated, &mut first, &mut second);
-    match verdict {
-        Verdict::Accepted {
-            regions: _,
-            rounds,
-            area: _,
-        } => {
-            let network = network::network(&first, &second, verdict);
-            put_network(buffer, n, identifiers, stated, marks, network, rounds)
+    ghost from_gives = { λ class letter. letter ≡ letter_of class };
+
+    fn from(class: Class) -> u8 {
+        match class {
+            Class::Observed => b'O',
+            Class::Determined => b'D',
+            Class::Enhanced => b'E',
+            Class::AsStated => b'S',
+            Class::Unknown => b'U',
         }
-        Verdict::Refused(contradiction, _) => put_contradiction(buffer, identifiers, contradiction),
-        Verdict::Unfinished { rounds: _, area: _ } => put_refusal(buffer, 24, 0, 0, 0),
-        Verdict::Unprepared => put_refusal(buffer, 25, 0, 0, 0),
-        Verdict::OutOfRange => put_refusal(buffer, 1, 0, 0, 0),
-        Verdict::WrongLength => put_refusal(buffer, 2, 0, 0, 0),
+    }
+}
+
+// The class of a pair, by its set after the arc rule and its refined set.
+#[tactic(auto, unfolding(crate::specs::Class::class_of))]
+pub fn class_of(arc: RelationSet, refined: RelationSet) -> Class
+    ensures { letter_of result ≡ class_of (size arc.0) (size refined.0) }
+{
+    match (arc.size(), refined.size()) {
+        (1, _) => Class::Observed,
+        (_, 1) => Class::Determined,
+        (before, after) if after < before => Class::Enhanced,
+        (_, after) if after < 8 => Class::AsStated,
+        _ => Class::Unknown,
+    }
+}
+
+// A scene that was read: its regions by their identifiers, and for each cell what was stated and its mark.
+#[derive(Clone, Copy)]
+pub(crate) struct Stated<'a> {
+    n: usize,
+    identifiers: &'a [u32],
+    cells: &'a [u8],
+    marks: &'a [u16],
+    ghost some: { 1 ≤ n },
+    ghost few: { n ≤ 64 },
+    ghost cells_square: { length cells.now ≡ n * n },
+    ghost marks_square: { length marks.now ≡ n * n },
+    ghost identifiers_fit: { (k : ℕ) → get_or identifiers.now k 0 < 2 ^ 32 },
+    ghost marks_fit: { (k : ℕ) → get_or marks.now k 0 < 2 ^ 16 },
+}
+
+impl<'a> Stated<'a> {
+    ghost use Rattle.report_text.specs.Inner.{InFront, report_by, Reports};
+
+    // What stands in front of the areas that a scene of n regions was read into.
+    fn in_front(n: usize, identifiers: &'a [u32], cells: &'a [u8], marks: &'a [u16]) -> Stated<'a>
+        requires some { 1 ≤ n }
+        requires few { n ≤ 64 }
+        requires cells_long { n * n ≤ length cells.now }
+        requires marks_long { n * n ≤ length marks.now }
+        ensures { InFront n identifiers.now cells.now marks.now result }
+    {
+        Stated {
+            n,
+            identifiers,
+            cells: &cells[..n * n],
+            marks: &marks[..n * n],
+        }
+    }
+
+    // The report of an accepted matrix; the arc stage that its letters go by is made by preparing it once more.
+    fn put_network(&self, page: &mut Page, network: &[u8], rounds: usize)
+        requires { refine self.now.n self.now.cells.now ≡ accepted network.now rounds }
+        ensures { AddsOn (report_by self.now (accepted network.now rounds)) page.old page.new }
+    {
+        let mut first = [0u8; LENT_CELLS];
+        let mut second = [0u8; LENT_CELLS];
+        network::prepare(self.n, self.cells, &mut first, &mut second);
+        put_accepted(page, self.n, rounds);
+        let pairs = Pairs {
+            stated: *self,
+            arcs: &first[..self.n * self.n],
+            network,
+        };
+        pairs.put_all(page);
+    }
+
+    // The report of the refinement of what was stated.
+    fn put_refined(&self, page: &mut Page)
+        ensures { Reports (report_by self.now (refine self.now.n self.now.cells.now)) page.old page.new }
+    {
+        let mut first = [0u8; LENT_CELLS];
+        let mut second = [0u8; LENT_CELLS];
+        let verdict = network::refine(self.n, self.cells, &mut first, &mut second);
+        match verdict {
+            Verdict::Accepted { rounds, .. } => {
+                let network = network::network(&first, &second, verdict);
+                self.put_network(page, network, rounds);
+            }
+            Verdict::Refused(contradiction, _) => {
+                put_contradiction(page, self.identifiers, contradiction);
+            }
+            _ => put_refusal(page, network::numbers::of_verdict(verdict)),
+        }
     }
 }
 
@@ -99,20 +140,15 @@ pub fn report(scene: &[u8], buffer: &mut [u8; 131072]) -> usize
     ensures { Reported scene.now buffer.old buffer.new result }
 {
     let mut identifiers = [0u32; LENT_IDENTIFIERS];
-    let mut stated = [0u8; LENT_CELLS];
+    let mut cells = [0u8; LENT_CELLS];
     let mut marks = [0u16; LENT_CELLS];
-    match scene::read(scene, &mut identifiers, &mut stated, &mut marks) {
-        Reading::Accepted(n) => put_refined(
-            buffer,
-            n,
-            &identifiers,
-            &stated[..n * n],
-            &marks[..n * n],
-        ),
-        Reading::WrongLength => put_refusal(buffer, 2, 0, 0, 0),
-        Reading::TooLong => put_refusal(buffer, 3, MOST_BYTES, 0, 0),
-        Reading::Refused(refusal, offset) => {
-            put_refusal(buffer, refusal.number() as usize, offset, 0, 0)
+    let mut page = Page { buffer, at: 0 };
+    let reading = scene::read(scene, &mut identifiers, &mut cells, &mut marks);
+    match reading {
+        Reading::Accepted(n) => {
+            Stated::in_front(n, &identifiers, &cells, &marks).put_refined(&mut page);
         }
+        _ => put_refusal(&mut page, scene::numbers::of_reading(reading)),
     }
+    page.at
 }

@@ -1,170 +1,121 @@
-// The lines of a report, each put at an offset of the buffer if there is room for it.
-ghost use Rattle.std.specs.Prelude.{[], ◌∷◌, ◌*◌, ◌<◌};
+// The lines of a report, each put on the page if there is room for it.
+ghost use Rattle.std.specs.Prelude.{◌≡◌, [], ◌∷◌, ◌+◌, ◌-◌, ◌*◌, ◌<◌, length};
 ghost use Rattle.text.specs.Decimal.{decimal};
 ghost use Rattle.text.specs.Line.{line};
-ghost use Rattle.text.specs.Put.{Adds};
+ghost use Rattle.text.specs.Put.{AddsOn};
 ghost use Rattle.network.specs.Numbers.{answer_of};
 ghost use Rattle.network.specs.declared.Verdict.TheVariants.{Refused};
-ghost use Rattle.report_text.specs.Report.{accepted_line, refusal_line, answer_line, sets_line, cell_line, pair_lines};
-ghost use Rattle.report_text.specs.Inner.{Paired};
+ghost use Rattle.report_text.specs.Report.{accepted_line, refusal_line, answer_line};
 
-use crate::class_of;
-use network::Contradiction;
-use region::{Identifier, Place, identifier_at};
+use crate::{Stated, class_of};
+use answer::Numbers;
+use network::{Contradiction, Verdict};
+use region::{Place, identifier_at};
 use relation::RelationSet;
+use text::Page;
 
 // A space and a number.
-fn put_field(buffer: &mut [u8], at: usize, number: usize) -> usize
-    ensures { Adds (32 ∷ decimal number) buffer.old at buffer.new result }
+fn put_field(page: &mut Page, number: usize)
+    ensures { AddsOn (32 ∷ decimal number) page.old page.new }
 {
-    let next = text::put_word(buffer, at, b" ");
-    text::put_decimal(buffer, next, number)
+    page.put_word(b" ");
+    page.put_decimal(number);
 }
 
 // The first line of an accepted scene: the number of regions and the rounds.
-pub(crate) fn put_accepted(buffer: &mut [u8], regions: usize, rounds: usize) -> usize
-    ensures { Adds (accepted_line regions rounds) buffer.old 0 buffer.new result }
+pub(crate) fn put_accepted(page: &mut Page, regions: usize, rounds: usize)
+    ensures { AddsOn (accepted_line regions rounds) page.old page.new }
 {
-    let word = text::put_word(buffer, 0, b"accepted");
-    let first = put_field(buffer, word, regions);
-    let second = put_field(buffer, first, rounds);
-    text::put_word(buffer, second, b"\n")
+    page.put_word(b"accepted");
+    put_field(page, regions);
+    put_field(page, rounds);
+    page.put_word(b"\n");
 }
 
 // The one line of a refusal: its number and three fields.
-pub(crate) fn put_refusal(
-    buffer: &mut [u8],
-    number: usize,
-    first: usize,
-    second: usize,
-    third: usize,
-) -> usize
-    ensures { Adds (refusal_line number first second third) buffer.old 0 buffer.new result }
+pub(crate) fn put_refusal(page: &mut Page, numbers: Numbers)
+    ensures { AddsOn (refusal_line numbers.number numbers.first numbers.second numbers.third) page.old page.new }
 {
-    let word = text::put_word(buffer, 0, b"refused");
-    let at = put_field(buffer, word, number);
-    let at = put_field(buffer, at, first);
-    let at = put_field(buffer, at, second);
-    let at = put_field(buffer, at, third);
-    text::put_word(buffer, at, b"\n")
+    page.put_word(b"refused");
+    put_field(page, numbers.number as usize);
+    put_field(page, numbers.first);
+    put_field(page, numbers.second);
+    put_field(page, numbers.third);
+    page.put_word(b"\n");
 }
 
 // The line of a contradiction, which names regions by their identifiers.
-pub(crate) fn put_contradiction(
-    buffer: &mut [u8],
-    identifiers: &[u32],
-    contradiction: Contradiction,
-) -> usize
-    ensures { Adds (answer_line identifiers.now (answer_of (Refused contradiction 0))) buffer.old 0 buffer.new result }
+pub(crate) fn put_contradiction(page: &mut Page, identifiers: &[u32], contradiction: Contradiction)
+    ensures { AddsOn (answer_line identifiers.now (answer_of (Refused contradiction 0))) page.old page.new }
 {
-    match contradiction {
-        Contradiction::Region(i) => {
-            let first = identifier_at(identifiers, i);
-            put_refusal(buffer, 21, first.0 as usize, 0, 0)
-        }
-        Contradiction::Pair(i, j) => {
-            let first = identifier_at(identifiers, i);
-            let second = identifier_at(identifiers, j);
-            put_refusal(buffer, 22, first.0 as usize, second.0 as usize, 0)
-        }
-        Contradiction::Triple(i, k, j) => {
-            let first = identifier_at(identifiers, i);
-            let second = identifier_at(identifiers, k);
-            let third = identifier_at(identifiers, j);
-            put_refusal(
-                buffer,
-                23,
-                first.0 as usize,
-                second.0 as usize,
-                third.0 as usize,
-            )
-        }
-    }
-}
-
-// The two marks of a pair, there and back, and the end of its line.
-fn put_marks(buffer: &mut [u8], at: usize, there: u16, back: u16) -> usize
-    ensures { Adds (32 ∷ line (decimal there ∷ decimal back ∷ [])) buffer.old at buffer.new result }
-{
-    let next = put_field(buffer, at, there as usize);
-    let last = put_field(buffer, next, back as usize);
-    text::put_word(buffer, last, b"\n")
-}
-
-// The line of a pair of regions: their identifiers, the refined set, the class and the marks there and back.
-fn put_pair(
-    buffer: &mut [u8],
-    at: usize,
-    first: Identifier,
-    second: Identifier,
-    arc: RelationSet,
-    refined: RelationSet,
-    there: u16,
-    back: u16,
-) -> usize
-    ensures { Adds (sets_line first.0 second.0 arc.0 refined.0 there back) buffer.old at buffer.new result }
-{
-    let next = text::put_decimal(buffer, at, first.0 as usize);
-    let next = put_field(buffer, next, second.0 as usize);
-    let next = put_field(buffer, next, refined.0 as usize);
-    let class = [b' ', class_of(arc, refined)];
-    let next = text::put_word(buffer, next, &class);
-    put_marks(buffer, next, there, back)
-}
-
-// The line of the cell at a place of the matrix, where its row is above its column.
-fn put_cell(
-    buffer: &mut [u8],
-    at: usize,
-    n: usize,
-    p: usize,
-    identifiers: &[u32],
-    arcs: &[u8],
-    network: &[u8],
-    marks: &[u16],
-) -> usize
-    requires { Paired n arcs.now network.now marks.now × (p < n * n) }
-    ensures { Adds (cell_line n identifiers.now arcs.now network.now marks.now p) buffer.old at buffer.new result }
-{
-    let i = p / n;
-    let j = p % n;
-    if i < j {
-        let first = identifier_at(identifiers, Place(i));
-        let second = identifier_at(identifiers, Place(j));
-        let back = marks[j * n + i];
-        return put_pair(
-            buffer,
-            at,
+    let name = |place| identifier_at(identifiers, place).0 as usize;
+    let (first, second, third) = match contradiction {
+        Contradiction::Region(i) => (name(i), 0, 0),
+        Contradiction::Pair(i, j) => (name(i), name(j), 0),
+        Contradiction::Triple(i, k, j) => (name(i), name(k), name(j)),
+    };
+    let numbers = network::numbers::of_verdict(Verdict::Refused(contradiction, 0));
+    put_refusal(
+        page,
+        Numbers {
             first,
             second,
-            RelationSet(arcs[p]),
-            RelationSet(network[p]),
-            marks[p],
-            back,
-        );
-    }
-    at
+            third,
+            ..numbers
+        },
+    );
 }
 
-// The lines of all pairs, in row order, by the matrix after the arc rule, the network and the marks.
-pub(crate) fn put_pairs(
-    buffer: &mut [u8],
-    at: usize,
-    n: usize,
-    identifiers: &[u32],
-    arcs: &[u8],
-    network: &[u8],
-    marks: &[u16],
-) -> usize
-    requires { Paired n arcs.now network.now marks.now }
-    ensures { Adds (pair_lines (n * n) n identifiers.now arcs.now network.now marks.now) buffer.old at buffer.new result }
-{
-    let size = n * n;
-    let mut next = at;
-    let mut p: usize = 0;
-    while p < size {
-        next = put_cell(buffer, next, n, p, identifiers, arcs, network, marks);
-        p += 1;
+// What the lines of pairs say of a scene: of each cell the set after the arc rule and the refined set, beside what was stated.
+#[derive(Clone, Copy)]
+pub(crate) struct Pairs<'a> {
+    pub(crate) stated: Stated<'a>,
+    pub(crate) arcs: &'a [u8],
+    pub(crate) network: &'a [u8],
+    ghost arcs_square: { length arcs.now ≡ stated.n * stated.n },
+    ghost network_square: { length network.now ≡ stated.n * stated.n },
+}
+
+impl Pairs<'_> {
+    ghost use Rattle.report_text.specs.Inner.{line_of, row_lines, lines_below};
+
+    // The line of the pair of regions at two places: their identifiers, the refined set, the class and the marks there and back.
+    fn put_pair(&self, page: &mut Page, i: usize, j: usize)
+        requires { (i < self.now.stated.n) × (j < self.now.stated.n) }
+        ensures { AddsOn (line_of self.now i j) page.old page.new }
+    {
+        let n = self.stated.n;
+        let first = identifier_at(self.stated.identifiers, Place(i));
+        let second = identifier_at(self.stated.identifiers, Place(j));
+        let arc = RelationSet(self.arcs[i * n + j]);
+        let refined = RelationSet(self.network[i * n + j]);
+        let there = self.stated.marks[i * n + j];
+        let back = self.stated.marks[j * n + i];
+        page.put_decimal(first.0 as usize);
+        put_field(page, second.0 as usize);
+        put_field(page, usize::from(refined.0));
+        page.put_word(&[b' ', class_of(arc, refined).into()]);
+        put_field(page, usize::from(there));
+        put_field(page, usize::from(back));
+        page.put_word(b"\n");
     }
-    next
+
+    // The lines of the pairs of a region with those behind it.
+    fn put_row(&self, page: &mut Page, i: usize)
+        requires { i < self.now.stated.n }
+        ensures { AddsOn (row_lines self.now i (self.now.stated.n - (i + 1))) page.old page.new }
+    {
+        for j in i + 1..self.stated.n {
+            self.put_pair(page, i, j);
+        }
+    }
+
+    // The lines of all pairs, in row order.
+    pub(crate) fn put_all(&self, page: &mut Page)
+        ensures { AddsOn (lines_below self.now (self.now.stated.n * self.now.stated.n)) page.old page.new }
+    {
+        for i in 0..self.stated.n {
+            self.put_row(page, i);
+        }
+    }
 }

@@ -1,5 +1,6 @@
 -- Putting a text into a lent buffer.
 use Rattle.std.specs.Prelude.{◌≡◌, ℕ, ◌+◌, ◌≤◌, Bool, cond, List, ◌++◌, leb, length, take, drop}
+use Rattle.text.specs.declared.Page.{Page}
 
 -- the text has room in the buffer from a place on
 abbrev pub room : List ℕ → ℕ → List ℕ → Bool
@@ -19,3 +20,12 @@ pub record Puts (text buffer : List ℕ) (at : ℕ) (buffer' : List ℕ) (next :
 pub record Adds (text buffer : List ℕ) (at : ℕ) (buffer' : List ℕ) (next : ℕ) : Type 0 where
   pub written : at + length text ≤ length buffer → buffer' ≡ overwritten buffer at text
   pub behind : at + length text ≤ length buffer → next ≡ at + length text
+
+-- the same of a page, which stays on the buffer that it was lent
+pub record PutsOn (text : List ℕ) (page page' : Page) : Type 0 where
+  pub same_reference : page'.buffer.ghost_name ≡ page.buffer.ghost_name
+  pub puts : Puts text page.buffer.now page.at page'.buffer.now page'.at
+
+pub record AddsOn (text : List ℕ) (page page' : Page) : Type 0 where
+  pub same_reference : page'.buffer.ghost_name ≡ page.buffer.ghost_name
+  pub adds : Adds text page.buffer.now page.at page'.buffer.now page'.at

@@ -3,6 +3,4 @@ use Rattle.report_text.proofs.LineLaws.{line_begin, line_more, line-end}
 use Rattle.report_text.proofs.lines.put_accepted.Goals as goal
 
 pub returns : goal.returns
-returns c =
-    line_begin c.put_word-word.ensures
-    (line_more c.put_field-first.ensures (line-end c.put_field-second.ensures c.put_word.ensures))
+returns c = line_begin c.put_word.ensures (line_more c.put_field.ensures (line-end c.put_field-2.ensures c.put_word-2.ensures))

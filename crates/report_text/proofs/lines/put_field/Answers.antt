@@ -3,4 +3,4 @@ use Rattle.report_text.proofs.LineLaws.{field_adds}
 use Rattle.report_text.proofs.lines.put_field.Goals as goal
 
 pub returns : goal.returns
-returns c = field_adds c.put_word-next.ensures c.put_decimal.ensures
+returns c = field_adds c.put_word.ensures c.put_decimal.ensures

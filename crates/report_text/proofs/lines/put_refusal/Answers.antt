@@ -4,7 +4,7 @@ use Rattle.report_text.proofs.lines.put_refusal.Goals as goal
 
 pub returns : goal.returns
 returns c =
-    line_begin c.put_word-word.ensures
-    (line_more c.put_field-at.ensures
-    (line_more c.put_field-at-2.ensures
-    (line_more c.put_field-at-3.ensures (line-end c.put_field-at-4.ensures c.put_word.ensures))))
+    line_begin c.put_word.ensures
+    (line_more c.put_field.ensures
+    (line_more c.put_field-2.ensures
+    (line_more c.put_field-3.ensures (line-end c.put_field-4.ensures c.put_word-2.ensures))))
