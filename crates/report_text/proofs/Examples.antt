@@ -3,7 +3,7 @@ use mathlib.Core.Path.{◌≡◌, refl}
 use mathlib.Core.List.{List, [], ◌∷◌, ◌++◌}
 use Prim.Native.Nat.{ℕ}
 use Rattle.lists.specs.Least.{least_from, least}
-use Rattle.region.specs.Lookup.{first_holding, lookup_of}
+use Rattle.region.specs.Lookup.{lookup_of}
 use Rattle.relation.specs.Sets.{has, union_of, over, members_below, size}
 use Rattle.relation.specs.Converse.{flip, converse}
 use Rattle.relation.specs.Composition.{rows, table, compose}
@@ -46,7 +46,7 @@ example_text =
 
 pub example_report : report_of (example 4) ≡ example_text
 unfolding report_of pair_lines class_of line decimal_up_to read_scene read_from record_at judged_region judged_statement judged_end place_of
-    length_of lookup_of first_holding stated_cell mark_of grid tabled refine preparation step_of node empty_region arc rounds round through
+    length_of lookup_of stated_cell mark_of grid tabled refine preparation step_of node empty_region arc rounds round through
     ran_out most_rounds first_empty first_change least least_from has union_of over members_below size flip converse rows table compose
     example example_text
 example_report = refl
@@ -63,7 +63,7 @@ backwards_text =
 
 pub backwards_report : report_of backwards ≡ backwards_text
 unfolding report_of pair_lines class_of line decimal_up_to read_scene read_from record_at judged_region judged_statement judged_end place_of
-    length_of lookup_of first_holding stated_cell mark_of grid tabled refine preparation step_of node empty_region arc rounds round through
+    length_of lookup_of stated_cell mark_of grid tabled refine preparation step_of node empty_region arc rounds round through
     ran_out most_rounds first_empty first_change least least_from has union_of over members_below size flip converse rows table compose
     backwards backwards_text
 backwards_report = refl
@@ -74,5 +74,5 @@ twice_text = 114 ∷ 101 ∷ 102 ∷ 117 ∷ 115 ∷ 101 ∷ 100 ∷ 32 ∷ 55 �
 
 pub twice_report : report_of (example 9) ≡ twice_text
 unfolding report_of line decimal_up_to read_scene read_from record_at judged_region judged_statement judged_end place_of length_of lookup_of
-    first_holding least least_from example twice_text
+    example twice_text
 twice_report = refl

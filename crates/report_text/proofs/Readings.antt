@@ -7,6 +7,7 @@ use native.Mathlib.Omega.{arith}
 use lib.ListN.{length, get_or, take, drop, replicate, length-replicate, length-append, length-take}
 use lib.Seq.{take_all}
 use Rattle.lists.specs.Laid.{laid}
+use Rattle.std.proofs.Common.{Result, Ok, Err}
 use Rattle.answer.specs.Answer.{Answer}
 use Rattle.answer.specs.Told.{told}
 use Rattle.answer.specs.declared.Numbers.{Numbers}
@@ -18,8 +19,8 @@ use Rattle.filing.specs.Stated.{stated_cell}
 use Rattle.filing.specs.Marks.{mark_of}
 use Rattle.filing.specs.Areas.{Areas, Lent, holding, padded}
 use Rattle.filing.proofs.Padded.{padded-same}
-use Rattle.scene.specs.declared.Reading.{Reading}
-use Rattle.scene.specs.declared.Reading.TheVariants.{Accepted, WrongLength, TooLong, Refused}
+use Rattle.scene.specs.declared.Unread.{Unread}
+use Rattle.scene.specs.declared.Unread.TheVariants.{WrongLength, TooLong, Refused}
 use Rattle.scene.specs.Format.{most_bytes}
 use Rattle.scene.specs.Numbers.{number_of, answer_of}
 use Rattle.scene.specs.Reading.{accepted_said, refused_at, read_scene}
@@ -81,8 +82,8 @@ blank_lent = record {
 abbrev pub AcceptedScene : List ℕ → List ℕ → List ℕ → List ℕ → ℕ → Type 0
 AcceptedScene scene identifiers cells marks n = AcceptedLeaves scene blank (holding identifiers cells marks) n
 
-pub accepted_read : {scene identifiers cells marks : List ℕ} {reading : Reading} {n : ℕ}
-    → Reads scene blank (holding identifiers cells marks) reading → reading ≡ Accepted n → AcceptedScene scene identifiers cells marks n
+pub accepted_read : {scene identifiers cells marks : List ℕ} {reading : Result ℕ Unread} {n : ℕ}
+    → Reads scene blank (holding identifiers cells marks) reading → reading ≡ Ok n → AcceptedScene scene identifiers cells marks n
 accepted_read {scene} {identifiers} {cells} {marks} r e = accepted-leaves (subst (Reads scene blank (holding identifiers cells marks)) e r)
 
 -- ---- identifiers and the zeros behind them
@@ -118,10 +119,8 @@ refused_reported number offset e begun adds =
     reported begun (ap read_report e) (record { adds = adds; short = omega (arith, refusal-short number offset 0 0) })
 
 -- the areas have the right lengths
-never_wrong : {scene identifiers cells marks : List ℕ} {reading : Reading} → Reads scene blank (holding identifiers cells marks) reading
-    → reading ≡ WrongLength → ⊥
-never_wrong {scene} {identifiers} {cells} {marks} r e =
-    right_lengths scene blank_lent (wrong_length_leaves (subst (Reads scene blank (holding identifiers cells marks)) e r)).ending
+never_wrong : {scene identifiers cells marks : List ℕ} → Reads scene blank (holding identifiers cells marks) (Err WrongLength) → ⊥
+never_wrong {scene} r = right_lengths scene blank_lent (wrong_length_leaves r).ending
 
 -- the line of a refusal's numbers
 abbrev pub numbers_line : Answer → List ℕ
@@ -131,13 +130,12 @@ pub told_line : {numbers : Numbers} {a : Answer} {page page' : Page} → told nu
     → AddsOn (refusal_line numbers.number numbers.first numbers.second numbers.third) page page' → AddsOn (numbers_line a) page page'
 told_line {page = page} {page' = page'} e adds = subst (λ (a : Answer). AddsOn (numbers_line a) page page') e adds
 
--- the line of any answer but an acceptance
-pub unread_reported : {scene identifiers cells marks : List ℕ} {page page' : Page} (reading : Reading)
-    → Reads scene blank (holding identifiers cells marks) reading → ((n : ℕ) → reading ≡ Accepted n → ⊥) → Begun page
-    → AddsOn (numbers_line (answer_of reading)) page page' → Reported scene page.buffer.now page'.buffer.now page'.at
-unread_reported (Accepted n) r other begun adds = absurd (other n refl)
-unread_reported WrongLength r other begun adds = absurd (never_wrong r refl)
-unread_reported {scene} TooLong r other begun adds =
+-- the line of any refusal
+pub unread_reported : {scene identifiers cells marks : List ℕ} {page page' : Page} (unread : Unread)
+    → Reads scene blank (holding identifiers cells marks) (Err unread) → Begun page
+    → AddsOn (numbers_line (answer_of (Err unread))) page page' → Reported scene page.buffer.now page'.buffer.now page'.at
+unread_reported WrongLength r begun adds = absurd (never_wrong r)
+unread_reported {scene} TooLong r begun adds =
     refused_reported 3 most_bytes (sym (right-areas scene blank_lent) ∙ (too_long_leaves r).ending) begun adds
-unread_reported {scene} (Refused refusal offset) r other begun adds =
+unread_reported {scene} (Refused refusal offset) r begun adds =
     refused_reported (number_of refusal) offset (sym (right-areas scene blank_lent) ∙ (refused_leaves r).ending) begun adds

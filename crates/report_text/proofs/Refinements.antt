@@ -8,6 +8,7 @@ use lib.ListN.{length, get_or, take, replicate, length-replicate, get_or-eq_defa
 use lib.Seq.{take_all}
 use Rattle.lists.proofs.Splits.{split_lt}
 use Rattle.lists.proofs.LaidLaws.{take-laid}
+use Rattle.std.proofs.Common.{Ok, Err}
 use Rattle.answer.specs.Answer.{Answer}
 use Rattle.answer.specs.Ending.{Ending, accepted}
 use Rattle.matrix.proofs.CellLaws.{by_cell}
@@ -21,11 +22,10 @@ use Rattle.refinement.specs.Ends.{Ends}
 use Rattle.refinement.proofs.Stages.{length-arc, network-bytes}
 use Rattle.refinement.proofs.Ending.{refine_ends}
 use Rattle.refinement.proofs.Readied.{accepted-readied, readied-ending}
-use Rattle.network.specs.declared.Area.{Area}
-use Rattle.network.specs.declared.Contradiction.{Contradiction}
-use Rattle.network.specs.declared.Start.{Start}
-use Rattle.network.specs.declared.Verdict.{Verdict}
-use Rattle.network.specs.declared.Verdict.TheVariants.{Accepted, Refused, Unfinished, Unprepared, OutOfRange, WrongLength}
+use Rattle.refinement.specs.declared.Contradiction.{Contradiction}
+use Rattle.network.specs.declared.Accepted.{Accepted}
+use Rattle.network.specs.declared.Unrefined.TheVariants.{Refused, Unfinished, Unprepared, OutOfRange, WrongLength}
+use Rattle.network.specs.Verdict.{Verdict, Start}
 use Rattle.network.specs.Numbers.{answer_of}
 use Rattle.network.specs.Carries.{Carries}
 use Rattle.network.specs.Refined.{Refined, leaves}
@@ -63,32 +63,31 @@ lent_range {n} s =
     let long : n * n ≤ length area = omega (arith, length-replicate {A = ℕ} 4096 0, mul-le-mul s.few s.few) in
     record { square = s; first-long = long; second-long = long }
 
-carries-no_other : (n : ℕ) (verdict : Verdict) → Carries n verdict
-    → ((regions rounds : ℕ) (named : Area) → verdict ≡ Accepted regions rounds named → ⊥)
-    → ((contradiction : Contradiction) (rounds : ℕ) → verdict ≡ Refused contradiction rounds → ⊥) → ⊥
-carries-no_other n (Accepted regions rounds named) k a r = a regions rounds named refl
-carries-no_other n (Refused contradiction rounds) k a r = r contradiction rounds refl
-carries-no_other n (Unfinished rounds named) k a r = k
-carries-no_other n Unprepared k a r = k
-carries-no_other n OutOfRange k a r = k
-carries-no_other n WrongLength k a r = k
+carries-no_other : (n : ℕ) (verdict : Verdict) → Carries n verdict → ((outcome : Accepted) → verdict ≡ Ok outcome → ⊥)
+    → ((contradiction : Contradiction) (rounds : ℕ) → verdict ≡ Err (Refused contradiction rounds) → ⊥) → ⊥
+carries-no_other n (Ok outcome) k a r = a outcome refl
+carries-no_other n (Err (Refused contradiction rounds)) k a r = r contradiction rounds refl
+carries-no_other n (Err (Unfinished rounds named)) k a r = k
+carries-no_other n (Err Unprepared) k a r = k
+carries-no_other n (Err OutOfRange) k a r = k
+carries-no_other n (Err WrongLength) k a r = k
 
 module _ (s : Stated) {first' second' : List ℕ} {verdict : Verdict} (v : Refined s.n s.cells.now area area first' second' verdict) where
   range : InRange s.n s.cells.now (length area) (length area)
   range = lent_range (stated_so s)
 
   -- the network that an acceptance hands back
-  pub accepted-network : {regions rounds : ℕ} {named : Area} {part : List ℕ} {at_first at_second at_part : ℕ × ℕ}
-      → verdict ≡ Accepted regions rounds named → Handed first' second' at_first at_second (Accepted regions rounds named) part at_part
-      → HandedBack s.n s.cells.now rounds part
+  pub accepted-network : {outcome : Accepted} {part : List ℕ} {at_first at_second at_part : ℕ × ℕ}
+      → verdict ≡ Ok outcome → Handed first' second' at_first at_second (Ok outcome) part at_part
+      → HandedBack s.n s.cells.now outcome.rounds part
   accepted-network {part = part} {at_first = at_first} {at_second = at_second} {at_part = at_part} e h =
       let back : Handed first' second' at_first at_second verdict part at_part = rw e h in handed-back range v e back
 
   pub contradiction_reports : {contradiction : Contradiction} {rounds : ℕ} {page page' : Page}
-      → verdict ≡ Refused contradiction rounds → AddsOn (answer_line s.identifiers.now (answer_of (Refused contradiction 0))) page page'
+      → verdict ≡ Err (Refused contradiction rounds) → AddsOn (answer_line s.identifiers.now (answer_of (Err (Refused contradiction 0)))) page page'
       → Reports (report_by s (refine s.n s.cells.now)) page page'
   contradiction_reports {contradiction} {rounds} e a =
-      let other : Verdict = Refused contradiction rounds in
+      let other : Verdict = Err (Refused contradiction rounds) in
       let same = refused_report range (subst (Refined s.n s.cells.now area area first' second') e v) s.identifiers.now s.marks.now
       (contradicted contradiction rounds) in
       record {
@@ -97,8 +96,8 @@ module _ (s : Stated) {first' second' : List ℕ} {verdict : Verdict} (v : Refin
       }
 
   -- the call is within its limits, so it never ends otherwise
-  pub never_otherwise : ((regions rounds : ℕ) (named : Area) → verdict ≡ Accepted regions rounds named → ⊥)
-      → ((contradiction : Contradiction) (rounds : ℕ) → verdict ≡ Refused contradiction rounds → ⊥) → ⊥
+  pub never_otherwise : ((outcome : Accepted) → verdict ≡ Ok outcome → ⊥)
+      → ((contradiction : Contradiction) (rounds : ℕ) → verdict ≡ Err (Refused contradiction rounds) → ⊥) → ⊥
   never_otherwise = carries-no_other s.n verdict (refine_carries range v)
 
 -- every cell of a network is a byte, and so is what counts past its end

@@ -4,17 +4,18 @@ use mathlib.Core.List.{List}
 use Prim.Native.Nat.{ℕ}
 use native.Mathlib.Omega.{arith}
 use lib.ListN.{length}
+use Rattle.std.proofs.Common.{Ok, Err}
 use Rattle.answer.specs.Answer.{Answer}
 use Rattle.answer.specs.Ending.{Ending, accepted, refused, answered}
 use Rattle.refinement.specs.InRange.{InRange}
 use Rattle.refinement.specs.Network.{Largest}
 use Rattle.refinement.specs.Refine.{refine}
 use Rattle.refinement.proofs.Limits.{refined_in_range}
-use Rattle.network.specs.declared.Area.{Area}
-use Rattle.network.specs.declared.Contradiction.{Contradiction}
-use Rattle.network.specs.declared.Contradiction.TheVariants.{Region, Pair, Triple}
-use Rattle.network.specs.declared.Verdict.{Verdict}
-use Rattle.network.specs.declared.Verdict.TheVariants.{Accepted, Refused}
+use Rattle.refinement.specs.declared.Contradiction.{Contradiction}
+use Rattle.refinement.specs.declared.Contradiction.TheVariants.{Region, Pair, Triple}
+use Rattle.network.specs.declared.Accepted.{Accepted}
+use Rattle.network.specs.declared.Unrefined.TheVariants.{Refused}
+use Rattle.network.specs.Verdict.{Verdict}
 use Rattle.network.specs.Numbers.{answer_of}
 use Rattle.network.specs.Refined.{Refined}
 use Rattle.network.specs.Handed.{Handed}
@@ -30,13 +31,13 @@ pub record HandedBack (n : ℕ) (stated : List ℕ) (rounds : ℕ) (network : Li
 module _ {n : ℕ} {stated first second first' second' : List ℕ} {verdict : Verdict}
     (range : InRange n stated (length first) (length second))
     (call : Refined n stated first second first' second' verdict) where
-  pub handed-back : {part : List ℕ} {regions rounds : ℕ} {area : Area} {at_first at_second at_part : ℕ × ℕ}
-      → verdict ≡ Accepted regions rounds area → Handed first' second' at_first at_second verdict part at_part
-      → HandedBack n stated rounds part
-  handed-back {part} {regions} {rounds} {area} e back =
-      let a : Accepts verdict = record { regions = regions; rounds = rounds; area = area; is = e } in
+  pub handed-back : {part : List ℕ} {outcome : Accepted} {at_first at_second at_part : ℕ × ℕ}
+      → verdict ≡ Ok outcome → Handed first' second' at_first at_second verdict part at_part
+      → HandedBack n stated outcome.rounds part
+  handed-back {part} {outcome} e back =
+      let a : Accepts verdict = record { regions = outcome.regions; rounds = outcome.rounds; area = outcome.area; is = e } in
       let o = accepted-ending range call a in
-      let counted : o.count ≡ rounds =
+      let counted : o.count ≡ outcome.rounds =
       ap (λ (x : Answer). x.count) (sym (ap answered o.is) ∙ sym call.answer ∙ ap answer_of e) in
       let same : part ≡ o.given = back.bytes ∙ handed-network range call a in
       record {
@@ -56,13 +57,13 @@ module _ {n : ℕ} {stated first second first' second' : List ℕ} {verdict : Ve
 
 -- the line of a contradiction does not tell the rounds
 pub contradiction_line : (identifiers : List ℕ) (contradiction : Contradiction) (rounds : ℕ)
-    → answer_line identifiers (answer_of (Refused contradiction 0)) ≡ answer_line identifiers (answer_of (Refused contradiction rounds))
+    → answer_line identifiers (answer_of (Err (Refused contradiction 0))) ≡ answer_line identifiers (answer_of (Err (Refused contradiction rounds)))
 contradiction_line identifiers (Region i) rounds = refl
 contradiction_line identifiers (Pair i j) rounds = refl
 contradiction_line identifiers (Triple i k j) rounds = refl
 
 -- and a contradiction has a number
-pub contradicted : (contradiction : Contradiction) (rounds : ℕ) → (answer_of (Refused contradiction rounds)).number ≡ 0 → ⊥
+pub contradicted : (contradiction : Contradiction) (rounds : ℕ) → (answer_of (Err (Refused contradiction rounds))).number ≡ 0 → ⊥
 contradicted (Region i) rounds e = omega arith
 contradicted (Pair i j) rounds e = omega arith
 contradicted (Triple i k j) rounds e = omega arith

@@ -13,9 +13,8 @@ ghost use Rattle.report_text.specs.Report.{Reported};
 
 use filing::{LENT_CELLS, LENT_IDENTIFIERS};
 use lines::{Pairs, put_accepted, put_contradiction, put_refusal};
-use network::Verdict;
+use network::Unrefined;
 use relation::RelationSet;
-use scene::Reading;
 use text::Page;
 
 // How much is known of a pair, by what was stated of it in both directions together.
@@ -123,14 +122,14 @@ impl<'a> Stated<'a> {
         let mut second = [0u8; LENT_CELLS];
         let verdict = network::refine(self.n, self.cells, &mut first, &mut second);
         match verdict {
-            Verdict::Accepted { rounds, .. } => {
+            Ok(accepted) => {
                 let network = network::network(&first, &second, verdict);
-                self.put_network(page, network, rounds);
+                self.put_network(page, network, accepted.rounds);
             }
-            Verdict::Refused(contradiction, _) => {
+            Err(Unrefined::Refused(contradiction, _)) => {
                 put_contradiction(page, self.identifiers, contradiction);
             }
-            _ => put_refusal(page, network::numbers::of_verdict(verdict)),
+            Err(_) => put_refusal(page, network::numbers::of_verdict(verdict)),
         }
     }
 }
@@ -143,12 +142,9 @@ pub fn report(scene: &[u8], buffer: &mut [u8; 131072]) -> usize
     let mut cells = [0u8; LENT_CELLS];
     let mut marks = [0u16; LENT_CELLS];
     let mut page = Page { buffer, at: 0 };
-    let reading = scene::read(scene, &mut identifiers, &mut cells, &mut marks);
-    match reading {
-        Reading::Accepted(n) => {
-            Stated::in_front(n, &identifiers, &cells, &marks).put_refined(&mut page);
-        }
-        _ => put_refusal(&mut page, scene::numbers::of_reading(reading)),
+    match scene::read(scene, &mut identifiers, &mut cells, &mut marks) {
+        Ok(n) => Stated::in_front(n, &identifiers, &cells, &marks).put_refined(&mut page),
+        Err(unread) => put_refusal(&mut page, scene::numbers::of_reading(Err(unread))),
     }
     page.at
 }

@@ -4,12 +4,11 @@ ghost use Rattle.text.specs.Decimal.{decimal};
 ghost use Rattle.text.specs.Line.{line};
 ghost use Rattle.text.specs.Put.{AddsOn};
 ghost use Rattle.network.specs.Numbers.{answer_of};
-ghost use Rattle.network.specs.declared.Verdict.TheVariants.{Refused};
 ghost use Rattle.report_text.specs.Report.{accepted_line, refusal_line, answer_line};
 
 use crate::{Stated, class_of};
 use answer::Numbers;
-use network::{Contradiction, Verdict};
+use network::{Contradiction, Unrefined};
 use region::{Place, identifier_at};
 use relation::RelationSet;
 use text::Page;
@@ -46,7 +45,7 @@ pub(crate) fn put_refusal(page: &mut Page, numbers: Numbers)
 
 // The line of a contradiction, which names regions by their identifiers.
 pub(crate) fn put_contradiction(page: &mut Page, identifiers: &[u32], contradiction: Contradiction)
-    ensures { AddsOn (answer_line identifiers.now (answer_of (Refused contradiction 0))) page.old page.new }
+    ensures { AddsOn (answer_line identifiers.now (answer_of (Err (Unrefined.Refused contradiction 0)))) page.old page.new }
 {
     let name = |place| identifier_at(identifiers, place).0 as usize;
     let (first, second, third) = match contradiction {
@@ -54,7 +53,7 @@ pub(crate) fn put_contradiction(page: &mut Page, identifiers: &[u32], contradict
         Contradiction::Pair(i, j) => (name(i), name(j), 0),
         Contradiction::Triple(i, k, j) => (name(i), name(k), name(j)),
     };
-    let numbers = network::numbers::of_verdict(Verdict::Refused(contradiction, 0));
+    let numbers = network::numbers::of_verdict(Err(Unrefined::Refused(contradiction, 0)));
     put_refusal(
         page,
         Numbers {

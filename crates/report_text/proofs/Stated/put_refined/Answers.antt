@@ -3,15 +3,15 @@ use Rattle.report_text.proofs.Refinements.{accepted-network, accepted_reports, c
 use Rattle.report_text.proofs.Stated.put_refined.Goals as goal
 
 pub put_network-requires : goal.put_network-requires
-put_network-requires c = (accepted-network c.args.self.now c.refine-verdict.ensures c.in-Accepted.is c.network-network.ensures).ending
+put_network-requires c = (accepted-network c.args.self.now c.refine-verdict.ensures c.in-Ok.is c.network-network.ensures).ending
 
-pub returns-in-Accepted : goal.returns-in-Accepted
-returns-in-Accepted c =
+pub returns-in-Ok : goal.returns-in-Ok
+returns-in-Ok c =
     accepted_reports c.args.self.now
-    (accepted-network c.args.self.now c.refine-verdict.ensures c.in-Accepted.is c.network-network.ensures) c.put_network.ensures
+    (accepted-network c.args.self.now c.refine-verdict.ensures c.in-Ok.is c.network-network.ensures) c.put_network.ensures
 
-pub returns-in-Refused : goal.returns-in-Refused
-returns-in-Refused c = contradiction_reports c.args.self.now c.refine-verdict.ensures c.in-Refused.is c.put_contradiction.ensures
+pub returns-in-Err-Refused : goal.returns-in-Err-Refused
+returns-in-Err-Refused c = contradiction_reports c.args.self.now c.refine-verdict.ensures c.in-Err-Refused.is c.put_contradiction.ensures
 
-pub returns-in_default : goal.returns-in_default
-returns-in_default c = absurd (never_otherwise c.args.self.now c.refine-verdict.ensures c.in_default.not-Accepted c.in_default.not-Refused)
+pub returns-in-Err : goal.returns-in-Err
+returns-in-Err c = absurd (never_otherwise c.args.self.now c.refine-verdict.ensures ? ?)

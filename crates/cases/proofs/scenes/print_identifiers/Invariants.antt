@@ -1,6 +1,0 @@
--- `cases::scenes::print_identifiers` is safe and ends: the measure is how many identifiers are left.
-use Rattle.std.proofs.Common.{◌-◌}
-use Rattle.cases.proofs.scenes.print_identifiers.Given as goal
-
-abbrev pub decreases-loop-place : goal.decreases-loop-place
-decreases-loop-place g l = l.count - l.place

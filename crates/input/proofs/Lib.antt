@@ -1,0 +1,2 @@
+-- no second answer meets the contract
+pub mod Unique
