@@ -22,8 +22,8 @@ use Rattle.refinement.specs.Ends.{Ends}
 use Rattle.refinement.proofs.Stages.{length-arc, network-bytes}
 use Rattle.refinement.proofs.Ending.{refine_ends}
 use Rattle.refinement.proofs.Readied.{accepted-readied, readied-ending}
-use Rattle.refinement.specs.declared.Contradiction.{Contradiction}
 use Rattle.network.specs.declared.Accepted.{Accepted}
+use Rattle.network.specs.declared.Unrefined.{Unrefined}
 use Rattle.network.specs.declared.Unrefined.TheVariants.{Refused, Unfinished, Unprepared, OutOfRange, WrongLength}
 use Rattle.network.specs.Verdict.{Verdict, Start}
 use Rattle.network.specs.Numbers.{answer_of}
@@ -37,10 +37,11 @@ use Rattle.text.specs.Put.{AddsOn}
 use Rattle.text.proofs.PutLaws.{adds-adds}
 use Rattle.report_text.specs.declared.Stated.{Stated}
 use Rattle.report_text.specs.Report.{accepted_line, pair_lines, name_of, answer_line}
+use Rattle.report_text.specs.Contradicts.{Contradicts}
 use Rattle.report_text.specs.Inner.{report_by, Reports}
 use Rattle.report_text.proofs.LineLaws.{renamed}
 use Rattle.report_text.proofs.Short.{refusal-short, accepted_report_short}
-use Rattle.report_text.proofs.Verdicts.{HandedBack, handed-back, refused_report, contradiction_line, contradicted}
+use Rattle.report_text.proofs.Verdicts.{HandedBack, handed-back, refused_report, contradicted}
 
 answer-short : (identifiers : List ℕ) (a : Answer) → length (answer_line identifiers a) ≤ 131072
 answer-short identifiers a =
@@ -63,14 +64,13 @@ lent_range {n} s =
     let long : n * n ≤ length area = omega (arith, length-replicate {A = ℕ} 4096 0, mul-le-mul s.few s.few) in
     record { square = s; first-long = long; second-long = long }
 
-carries-no_other : (n : ℕ) (verdict : Verdict) → Carries n verdict → ((outcome : Accepted) → verdict ≡ Ok outcome → ⊥)
-    → ((contradiction : Contradiction) (rounds : ℕ) → verdict ≡ Err (Refused contradiction rounds) → ⊥) → ⊥
-carries-no_other n (Ok outcome) k a r = a outcome refl
-carries-no_other n (Err (Refused contradiction rounds)) k a r = r contradiction rounds refl
-carries-no_other n (Err (Unfinished rounds named)) k a r = k
-carries-no_other n (Err Unprepared) k a r = k
-carries-no_other n (Err OutOfRange) k a r = k
-carries-no_other n (Err WrongLength) k a r = k
+-- a call within its limits is only ever refused for a contradiction
+carries-contradicts : (n : ℕ) (unrefined : Unrefined) → Carries n (Err unrefined) → Contradicts unrefined
+carries-contradicts n (Refused contradiction rounds) c = tt
+carries-contradicts n (Unfinished rounds named) c = c
+carries-contradicts n Unprepared c = c
+carries-contradicts n OutOfRange c = c
+carries-contradicts n WrongLength c = c
 
 module _ (s : Stated) {first' second' : List ℕ} {verdict : Verdict} (v : Refined s.n s.cells.now area area first' second' verdict) where
   range : InRange s.n s.cells.now (length area) (length area)
@@ -83,22 +83,18 @@ module _ (s : Stated) {first' second' : List ℕ} {verdict : Verdict} (v : Refin
   accepted-network {part = part} {at_first = at_first} {at_second = at_second} {at_part = at_part} e h =
       let back : Handed first' second' at_first at_second verdict part at_part = rw e h in handed-back range v e back
 
-  pub contradiction_reports : {contradiction : Contradiction} {rounds : ℕ} {page page' : Page}
-      → verdict ≡ Err (Refused contradiction rounds) → AddsOn (answer_line s.identifiers.now (answer_of (Err (Refused contradiction 0)))) page page'
-      → Reports (report_by s (refine s.n s.cells.now)) page page'
-  contradiction_reports {contradiction} {rounds} e a =
-      let other : Verdict = Err (Refused contradiction rounds) in
-      let same = refused_report range (subst (Refined s.n s.cells.now area area first' second') e v) s.identifiers.now s.marks.now
-      (contradicted contradiction rounds) in
-      record {
-        adds = renamed (contradiction_line s.identifiers.now contradiction rounds ∙ same) a;
-        short = subst (λ (t : List ℕ). length t ≤ 131072) same (answer-short s.identifiers.now (answer_of other));
-      }
+  pub refused_contradicts : {unrefined : Unrefined} → verdict ≡ Err unrefined → Contradicts unrefined
+  refused_contradicts {unrefined} e = carries-contradicts s.n unrefined (subst (Carries s.n) e (refine_carries range v))
 
-  -- the call is within its limits, so it never ends otherwise
-  pub never_otherwise : ((outcome : Accepted) → verdict ≡ Ok outcome → ⊥)
-      → ((contradiction : Contradiction) (rounds : ℕ) → verdict ≡ Err (Refused contradiction rounds) → ⊥) → ⊥
-  never_otherwise = carries-no_other s.n verdict (refine_carries range v)
+  pub contradiction_reports : {unrefined : Unrefined} {page page' : Page} → verdict ≡ Err unrefined
+      → AddsOn (answer_line s.identifiers.now (answer_of (Err unrefined))) page page' → Reports (report_by s (refine s.n s.cells.now)) page page'
+  contradiction_reports {unrefined} e a =
+      let same = refused_report range (subst (Refined s.n s.cells.now area area first' second') e v) s.identifiers.now s.marks.now
+      (contradicted unrefined (refused_contradicts e)) in
+      record {
+        adds = renamed same a;
+        short = subst (λ (t : List ℕ). length t ≤ 131072) same (answer-short s.identifiers.now (answer_of (Err unrefined)));
+      }
 
 -- every cell of a network is a byte, and so is what counts past its end
 small-sets : {n : ℕ} {stated : List ℕ} {rounds : ℕ} {network : List ℕ} → HandedBack n stated rounds network → (k : ℕ) → get_or network k 0 < 256

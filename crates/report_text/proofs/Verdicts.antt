@@ -11,16 +11,17 @@ use Rattle.refinement.specs.InRange.{InRange}
 use Rattle.refinement.specs.Network.{Largest}
 use Rattle.refinement.specs.Refine.{refine}
 use Rattle.refinement.proofs.Limits.{refined_in_range}
-use Rattle.refinement.specs.declared.Contradiction.{Contradiction}
 use Rattle.refinement.specs.declared.Contradiction.TheVariants.{Region, Pair, Triple}
 use Rattle.network.specs.declared.Accepted.{Accepted}
-use Rattle.network.specs.declared.Unrefined.TheVariants.{Refused}
+use Rattle.network.specs.declared.Unrefined.{Unrefined}
+use Rattle.network.specs.declared.Unrefined.TheVariants.{Refused, Unfinished, Unprepared, OutOfRange, WrongLength}
 use Rattle.network.specs.Verdict.{Verdict}
 use Rattle.network.specs.Numbers.{answer_of}
 use Rattle.network.specs.Refined.{Refined}
 use Rattle.network.specs.Handed.{Handed}
 use Rattle.network.specs.Demand.{Accepts}
 use Rattle.network.proofs.Demand3.{accepted-ending, network-largest, handed-network}
+use Rattle.report_text.specs.Contradicts.{Contradicts}
 use Rattle.report_text.specs.Report.{answer_line, refined_report}
 
 -- the network that an acceptance hands back, after so many rounds
@@ -55,15 +56,12 @@ module _ {n : ℕ} {stated first second first' second' : List ℕ} {verdict : Ve
       of_ending (accepted network count) q = absurd (z (ap (λ (x : Answer). x.number) q))
       of_ending (refused numbers) q = ap (answer_line identifiers) q
 
--- the line of a contradiction does not tell the rounds
-pub contradiction_line : (identifiers : List ℕ) (contradiction : Contradiction) (rounds : ℕ)
-    → answer_line identifiers (answer_of (Err (Refused contradiction 0))) ≡ answer_line identifiers (answer_of (Err (Refused contradiction rounds)))
-contradiction_line identifiers (Region i) rounds = refl
-contradiction_line identifiers (Pair i j) rounds = refl
-contradiction_line identifiers (Triple i k j) rounds = refl
-
--- and a contradiction has a number
-pub contradicted : (contradiction : Contradiction) (rounds : ℕ) → (answer_of (Err (Refused contradiction rounds))).number ≡ 0 → ⊥
-contradicted (Region i) rounds e = omega arith
-contradicted (Pair i j) rounds e = omega arith
-contradicted (Triple i k j) rounds e = omega arith
+-- a contradiction has a number
+pub contradicted : (unrefined : Unrefined) → Contradicts unrefined → (answer_of (Err unrefined)).number ≡ 0 → ⊥
+contradicted (Refused (Region i) rounds) c e = omega arith
+contradicted (Refused (Pair i j) rounds) c e = omega arith
+contradicted (Refused (Triple i k j) rounds) c e = omega arith
+contradicted (Unfinished rounds area) c e = c
+contradicted Unprepared c e = c
+contradicted OutOfRange c e = c
+contradicted WrongLength c e = c

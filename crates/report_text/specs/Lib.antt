@@ -4,4 +4,5 @@ pub mod Words
 pub mod Report
 pub mod Letters
 pub mod Directions
+pub mod Contradicts
 pub mod Inner

@@ -13,7 +13,6 @@ ghost use Rattle.report_text.specs.Report.{Reported};
 
 use filing::{LENT_CELLS, LENT_IDENTIFIERS};
 use lines::{Pairs, put_accepted, put_contradiction, put_refusal};
-use network::Unrefined;
 use relation::RelationSet;
 use text::Page;
 
@@ -104,7 +103,7 @@ impl<'a> Stated<'a> {
     {
         let mut first = [0u8; LENT_CELLS];
         let mut second = [0u8; LENT_CELLS];
-        network::prepare(self.n, self.cells, &mut first, &mut second);
+        let _ = network::prepare(self.n, self.cells, &mut first, &mut second);
         put_accepted(page, self.n, rounds);
         let pairs = Pairs {
             stated: *self,
@@ -126,10 +125,7 @@ impl<'a> Stated<'a> {
                 let network = network::network(&first, &second, verdict);
                 self.put_network(page, network, accepted.rounds);
             }
-            Err(Unrefined::Refused(contradiction, _)) => {
-                put_contradiction(page, self.identifiers, contradiction);
-            }
-            Err(_) => put_refusal(page, network::numbers::of_verdict(verdict)),
+            Err(unrefined) => put_contradiction(page, self.identifiers, unrefined),
         }
     }
 }

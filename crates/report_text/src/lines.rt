@@ -4,6 +4,7 @@ ghost use Rattle.text.specs.Decimal.{decimal};
 ghost use Rattle.text.specs.Line.{line};
 ghost use Rattle.text.specs.Put.{AddsOn};
 ghost use Rattle.network.specs.Numbers.{answer_of};
+ghost use Rattle.report_text.specs.Contradicts.{Contradicts};
 ghost use Rattle.report_text.specs.Report.{accepted_line, refusal_line, answer_line};
 
 use crate::{Stated, class_of};
@@ -43,17 +44,21 @@ pub(crate) fn put_refusal(page: &mut Page, numbers: Numbers)
     page.put_word(b"\n");
 }
 
-// The line of a contradiction, which names regions by their identifiers.
-pub(crate) fn put_contradiction(page: &mut Page, identifiers: &[u32], contradiction: Contradiction)
-    ensures { AddsOn (answer_line identifiers.now (answer_of (Err (Unrefined.Refused contradiction 0)))) page.old page.new }
+// The line of a refinement that ran into a contradiction: it names regions by their identifiers.
+pub(crate) fn put_contradiction(page: &mut Page, identifiers: &[u32], unrefined: Unrefined)
+    requires { Contradicts unrefined }
+    ensures { AddsOn (answer_line identifiers.now (answer_of (Err unrefined))) page.old page.new }
 {
+    let Unrefined::Refused(contradiction, _) = unrefined else {
+        unreachable!();
+    };
     let name = |place| identifier_at(identifiers, place).0 as usize;
     let (first, second, third) = match contradiction {
         Contradiction::Region(i) => (name(i), 0, 0),
         Contradiction::Pair(i, j) => (name(i), name(j), 0),
         Contradiction::Triple(i, k, j) => (name(i), name(k), name(j)),
     };
-    let numbers = network::numbers::of_verdict(Err(Unrefined::Refused(contradiction, 0)));
+    let numbers = network::numbers::of_verdict(Err(unrefined));
     put_refusal(
         page,
         Numbers {
