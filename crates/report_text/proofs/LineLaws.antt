@@ -51,9 +51,6 @@ module _ (p : Pairs) (i : ℕ) where
   abbrev n : ℕ
   n = p.stated.n
 
-  cell_of : ℕ → List ℕ
-  cell_of = cell_line n p.stated.identifiers.now p.arcs.now p.network.now p.stated.marks.now
-
   -- a cell's line is that of its pair behind the diagonal, and none elsewhere
   cell_more : (j : ℕ) → j < n → (text : List ℕ) → text ≡ cond (ltb i j) (line_of p i j) []
       → lines_below p (i * n + suc j) ≡ lines_below p (i * n + j) ++ text

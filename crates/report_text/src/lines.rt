@@ -37,6 +37,7 @@ pub(crate) fn put_refusal(page: &mut Page, numbers: Numbers)
     ensures { AddsOn (refusal_line numbers.number numbers.first numbers.second numbers.third) page.old page.new }
 {
     page.put_word(b"refused");
+    // The library has no `From<u32>` for usize; so too of identifiers below.
     put_field(page, numbers.number as usize);
     put_field(page, numbers.first);
     put_field(page, numbers.second);
