@@ -13,7 +13,7 @@ use Rattle.text.specs.Line.{line}
 use Rattle.text.specs.Put.{PutsOn, AddsOn}
 use Rattle.text.proofs.PutLaws.{puts_adds, adds-adds, adds_none}
 use Rattle.report_text.specs.declared.lines.Pairs.{Pairs}
-use Rattle.report_text.specs.Report.{cell_line, pair_lines}
+use Rattle.report_text.specs.Report.{pair_lines}
 use Rattle.report_text.specs.Inner.{line_of, row_lines, lines_below}
 
 -- what is put is put under any name

@@ -15,12 +15,12 @@ in_front-requires c =
 pub returns : goal.returns
 returns c =
     elim c.match-read.branch [
-      in-Ok w ↦
-        rw w.page-is
-        (accepted_reported (accepted_read c.read.ensures w.in-Ok.is) w.in_front.ensures
-        (record { beginning = refl; long = omega arith }) w.put_refined.ensures)
-    | in-Err w ↦
-        rw w.page-is
-        (unread_reported w.in-Err.unread (rw w.in-Err.is at c.read.ensures) (record { beginning = refl; long = omega arith })
-        (told_line w.of_reading.ensures w.put_refusal.ensures))
+      | in-Ok w ↦
+          rw w.page-is
+          (accepted_reported (accepted_read c.read.ensures w.in-Ok.is) w.in_front.ensures
+          (record { beginning = refl; long = omega arith }) w.put_refined.ensures)
+      | in-Err w ↦
+          rw w.page-is
+          (unread_reported w.in-Err.unread (rw w.in-Err.is at c.read.ensures) (record { beginning = refl; long = omega arith })
+          (told_line w.of_reading.ensures w.put_refusal.ensures))
     ]
