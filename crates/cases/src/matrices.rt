@@ -37,7 +37,10 @@ fn run<R: Print>(rt: &R, name: &str, n: usize, cells: &[u8], untouched: usize) -
     let mut second = [MARK; 4200];
     let verdict = network::refine(n, cells, &mut first, &mut second);
     let told = network::numbers::of_verdict(verdict);
-    print!(rt; "{name}: {} {} {} {} {}", told.number, told.first, told.second, told.third, told.count)?;
+    print!(rt;
+        "{name}: {} {} {} {} {}",
+        told.number, told.first, told.second, told.third, told.count
+    )?;
     if is_kept(&first, untouched) {
         print!(rt; " first kept")?;
     }
@@ -69,7 +72,14 @@ fn four_regions<R: Print>(rt: &R) -> io::Result<()> {
     run(rt, "along a triple", 4, &triple, 16)?;
     let unrealisable: [u8; 16] = matrix_of(
         4,
-        &[(0, 1, 44), (0, 2, 80), (0, 3, 80), (1, 2, 129), (1, 3, 196), (2, 3, 40)],
+        &[
+            (0, 1, 44),
+            (0, 2, 80),
+            (0, 3, 80),
+            (1, 2, 129),
+            (1, 3, 196),
+            (2, 3, 40),
+        ],
     );
     run(rt, "without an arrangement", 4, &unrealisable, 16)
 }

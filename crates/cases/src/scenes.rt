@@ -15,7 +15,10 @@ fn print_reading<R: Print>(
     marks: &mut [u16],
 ) -> io::Result<()> {
     let told = scene::numbers::of_reading(scene::read(scene, identifiers, cells, marks));
-    print!(rt; " {} {} {}, sum of the cells", told.number, told.first, told.count)?;
+    print!(rt;
+        " {} {} {}, sum of the cells",
+        told.number, told.first, told.count
+    )?;
     print_sum(rt, cells)?;
     if told.count == 3 {
         print!(rt; ", identifiers")?;
