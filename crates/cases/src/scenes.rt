@@ -82,6 +82,7 @@ fn print_file<R: Print, F: Read + Drop>(rt: &R, mut file: F) -> io::Result<()> {
 pub(crate) fn run_all<R: Print + Eprint + Env + Files>(rt: &R) -> io::Result<()> {
     print_short(rt, b"\x03")?;
     let mut path = [0u8; 4096];
+    // The library's `env::args` needs an allocator, and fails as a whole where one argument is no text.
     for i in 1..usize::MAX {
         match rt.arg(i, &mut path) {
             Ok(length) => one(rt, &path[..length])?,
