@@ -2,6 +2,7 @@
 use mathlib.Core.Path.{◌≡◌, refl}
 use mathlib.Core.List.{List, [], ◌∷◌, ◌++◌}
 use Prim.Native.Nat.{ℕ}
+use lib.Chars.{codes}
 use Rattle.lists.specs.Least.{least_from, least}
 use Rattle.region.specs.Lookup.{lookup_of}
 use Rattle.relation.specs.Sets.{has, union_of, over, members_below, size}
@@ -36,13 +37,9 @@ example third =
     ++ (2 ∷ 0 ∷ 0 ∷ 0 ∷ 9 ∷ 0 ∷ 0 ∷ 0 ∷ 4 ∷ 8 ∷ [])
     ++ (3 ∷ [])
 
--- its report: `accepted 3 1`, `7 9 8 O 1 0`, `7 4 8 D 0 0`, `9 4 8 O 2 0`, each with a line feed
+-- its report
 pub example_text : List ℕ
-example_text =
-    (97 ∷ 99 ∷ 99 ∷ 101 ∷ 112 ∷ 116 ∷ 101 ∷ 100 ∷ 32 ∷ 51 ∷ 32 ∷ 49 ∷ 10 ∷ [])
-    ++ (55 ∷ 32 ∷ 57 ∷ 32 ∷ 56 ∷ 32 ∷ 79 ∷ 32 ∷ 49 ∷ 32 ∷ 48 ∷ 10 ∷ [])
-    ++ (55 ∷ 32 ∷ 52 ∷ 32 ∷ 56 ∷ 32 ∷ 68 ∷ 32 ∷ 48 ∷ 32 ∷ 48 ∷ 10 ∷ [])
-    ++ (57 ∷ 32 ∷ 52 ∷ 32 ∷ 56 ∷ 32 ∷ 79 ∷ 32 ∷ 50 ∷ 32 ∷ 48 ∷ 10 ∷ [])
+example_text = codes "accepted 3 1\n7 9 8 O 1 0\n7 4 8 D 0 0\n9 4 8 O 2 0\n"
 
 pub example_report : report_of (example 4) ≡ example_text
 unfolding report_of pair_lines class_of line decimal_up_to read_scene read_from record_at judged_region judged_statement judged_end place_of
@@ -51,15 +48,13 @@ unfolding report_of pair_lines class_of line decimal_up_to read_scene read_from 
     example example_text
 example_report = refl
 
--- the pair 7 and 9 stated backwards alone, "9 contains 7": its report is `accepted 2 0` and `7 9 8 O 0 1`
+-- the pair 7 and 9 stated backwards alone, "9 contains 7", and its report
 pub backwards : List ℕ
 backwards =
     (1 ∷ 0 ∷ 0 ∷ 0 ∷ 7 ∷ []) ++ (1 ∷ 0 ∷ 0 ∷ 0 ∷ 9 ∷ []) ++ (2 ∷ 0 ∷ 0 ∷ 0 ∷ 9 ∷ 0 ∷ 0 ∷ 0 ∷ 7 ∷ 32 ∷ []) ++ (3 ∷ [])
 
 pub backwards_text : List ℕ
-backwards_text =
-    (97 ∷ 99 ∷ 99 ∷ 101 ∷ 112 ∷ 116 ∷ 101 ∷ 100 ∷ 32 ∷ 50 ∷ 32 ∷ 48 ∷ 10 ∷ [])
-    ++ (55 ∷ 32 ∷ 57 ∷ 32 ∷ 56 ∷ 32 ∷ 79 ∷ 32 ∷ 48 ∷ 32 ∷ 49 ∷ 10 ∷ [])
+backwards_text = codes "accepted 2 0\n7 9 8 O 0 1\n"
 
 pub backwards_report : report_of backwards ≡ backwards_text
 unfolding report_of pair_lines class_of line decimal_up_to read_scene read_from record_at judged_region judged_statement judged_end place_of
@@ -68,9 +63,9 @@ unfolding report_of pair_lines class_of line decimal_up_to read_scene read_from 
     backwards backwards_text
 backwards_report = refl
 
--- with the third identifier 9 as well: `refused 7 10 0 0` and a line feed
+-- with the third identifier 9 as well
 pub twice_text : List ℕ
-twice_text = 114 ∷ 101 ∷ 102 ∷ 117 ∷ 115 ∷ 101 ∷ 100 ∷ 32 ∷ 55 ∷ 32 ∷ 49 ∷ 48 ∷ 32 ∷ 48 ∷ 32 ∷ 48 ∷ 10 ∷ []
+twice_text = codes "refused 7 10 0 0\n"
 
 pub twice_report : report_of (example 9) ≡ twice_text
 unfolding report_of line decimal_up_to read_scene read_from record_at judged_region judged_statement judged_end place_of length_of lookup_of
