@@ -11,16 +11,22 @@ use lib.Bits.{and_zero_r}
 use lib.Dec.{eqb, lit<}
 use Rattle.lists.proofs.Splits.{split_lt}
 use Rattle.lists.proofs.LeastLaws.{Least, least-is}
+use Rattle.region.specs.Lookup.{place}
+use Rattle.region.specs.declared.Place.{Place}
 use Rattle.relation.specs.Relations.{equal}
 use Rattle.relation.specs.Sets.{Within, only, empty, intersect}
 use Rattle.relation.specs.Composition.{compose}
 use Rattle.relation.proofs.Within.{intersect_assoc, within_left, within-empty, byte_within_universal}
 use Rattle.relation.proofs.CompositionLaws.{equal-compose, compose-equal, compose_loop}
 use Rattle.matrix.specs.Cells.{cell}
+use Rattle.refinement.specs.declared.Step.{Step}
+use Rattle.refinement.specs.declared.Step.TheVariants.{Empty}
+use Rattle.refinement.specs.Step.{step_of}
 use Rattle.refinement.specs.Round.{through, ran_out}
 use Rattle.refinement.specs.Plain.{Plain}
 use Rattle.refinement.specs.Ends.{Three}
 use Rattle.refinement.proofs.Stages.{through-largest}
+use Rattle.refinement.proofs.Stepping.{by_step}
 
 -- the diagonal keeps equal
 pub through_self : (n : ℕ) (m : List ℕ) → Plain n m → (i : ℕ) → i < n → through n m i i n ≡ empty → ⊥
@@ -75,3 +81,15 @@ module _ (n : ℕ) (m : List ℕ) (i j : ℕ) (P : Plain n m) (hi : i < n) (hj :
         last_differs = λ e. kept (subst (λ (y : ℕ). compose (cell n m i y) (cell n m y j) ≡ x) (sym e)
             (ap (compose x) (P.diagonal j hj) ∙ compose-equal x (P.bytes.byte i j hi hj)));
       }
+
+-- so a step that runs empty has run out at one of the places
+pub ran_out_below : (n : ℕ) (m : List ℕ) → Plain n m → (a b : ℕ) (k : Place) → step_of n m ≡ Empty (place a) k (place b) → ran_out n m a b < n
+ran_out_below n m P a b k =
+    by_step (λ (s : Step). s ≡ Empty (place a) k (place b) → ran_out n m a b < n) n m
+    (λ i j e q.
+    let first : place i ≡ place a = cc in
+    let last : place j ≡ place b = cc in
+    subst (λ (x : ℕ). ran_out n m x b < n) (ap (λ (x : Place). x.0) first)
+    (subst (λ (x : ℕ). ran_out n m i x < n) (ap (λ (x : Place). x.0) last) (three_differ n m i j P e.first e.last e.empties).middle))
+    (λ r q. absurd cc)
+    (λ r q. absurd cc)
