@@ -1,6 +1,6 @@
 -- What the areas hold where preparation or rounds in areas of exactly n² bytes end.
 use mathlib.Core.Path.{◌≡◌, refl, sym, ap, ◌∙◌}
-use mathlib.Core.Bool.{true, false}
+use mathlib.Core.Bool.{false}
 use mathlib.Core.List.{List}
 use Prim.Native.Nat.{ℕ, ◌*◌}
 use lib.ListN.{length, replicate, length-replicate}
@@ -10,12 +10,11 @@ use Rattle.answer.specs.Ending.{Ending, accepted, refused}
 use Rattle.lists.specs.Laid.{laid}
 use Rattle.lists.proofs.LaidLaws.{laid_all}
 use Rattle.region.specs.declared.Place.{Place}
-use Rattle.refinement.specs.Refine.{rounds}
 use Rattle.refinement.specs.Run.{is_plain, after_rounds}
 use Rattle.network.specs.declared.Area.{Area}
 use Rattle.network.specs.declared.Area.TheVariants.{First, Second}
 use Rattle.refinement.specs.declared.Contradiction.TheVariants.{Triple}
-use Rattle.network.specs.Verdict.{Verdict, acceptance}
+use Rattle.network.specs.Verdict.{acceptance}
 use Rattle.network.specs.declared.Unrefined.TheVariants.{Refused, Unfinished, Unprepared}
 use Rattle.network.specs.Areas.{other, chosen, same_area, holds}
 use Rattle.network.specs.Ran.{round_before, used_up, left_by}
@@ -85,10 +84,3 @@ pub unplain_meets : (n : ℕ) (from : Area) (most : ℕ) (first second : List �
     → Meets n from (rounds_or n most (chosen from first second)) first second first second (Err Unprepared)
 unfolding left_by
 unplain_meets n from most first second e = rw e (record { answer = refl; names = tt; in_first = refl; in_second = refl })
-
--- they can
-pub plain-meets : (n : ℕ) (from : Area) (most : ℕ) (first second first' second' : List ℕ) (verdict : Verdict)
-    → is_plain n (chosen from first second) ≡ true
-    → Meets n from (rounds most n 0 (chosen from first second)) first second first' second' verdict
-    → Meets n from (rounds_or n most (chosen from first second)) first second first' second' verdict
-plain-meets n from most first second first' second' verdict e x = rw e x

@@ -1,8 +1,9 @@
 -- From the fronts of the lent areas to the areas, and calls that leave them as they are.
-use mathlib.Core.Path.{◌≡◌, refl}
+use mathlib.Core.Path.{◌≡◌, refl, sym, ◌∙◌}
 use mathlib.Core.Bool.{Bool, true, false, cond}
 use mathlib.Core.List.{List, ◌++◌, append-nil}
 use Prim.Native.Nat.{ℕ, zero, suc, ◌*◌, ◌≤◌}
+use native.Mathlib.Nat.{mul-le-mul}
 use native.Mathlib.Omega.{arith}
 use lib.Dec.{eqb, ltb}
 use lib.ListN.{length, take, drop, replicate, take-append-drop, length-take, drop_of_length-le}
@@ -11,6 +12,7 @@ use Rattle.answer.specs.Answer.{Answer, answer}
 use Rattle.lists.specs.Laid.{laid}
 use Rattle.answer.specs.Ending.{Ending, accepted, refused}
 use Rattle.matrix.specs.Square.{in_range}
+use Rattle.matrix.proofs.CellLaws.{range_holds}
 use Rattle.refinement.specs.Run.{readied, ran}
 use Rattle.refinement.specs.InRange.{InRange}
 use Rattle.refinement.proofs.Limits.{limits_follow}
@@ -23,6 +25,10 @@ use Rattle.network.specs.Refined.{leaves}
 use Rattle.network.specs.Prepared.{leaves_second, Prepared}
 use Rattle.network.specs.Ran.{NamesFrom, round_before, used_up, left_by, starts_from, ran_from, Ran}
 use Rattle.network.specs.Inner.{started_with, Readies, rounds_or, Meets}
+
+-- as many cells as there may be
+pub cells_fit : (n : ℕ) (tested : Bool) → tested ≡ in_range n → tested ≡ true → n * n ≤ 4096
+cells_fit n tested e t = let few = (range_holds n (sym e ∙ t)).1 in omega (arith, mul-le-mul few few)
 
 -- laid over the front, with the rest as it was, is laid over the whole
 laid_over_front : (k : ℕ) (filled area : List ℕ) → laid k filled (take k area) ++ drop k area ≡ laid k filled area

@@ -4,12 +4,13 @@ use mathlib.Core.List.{List}
 use Prim.Native.Nat.{ℕ, ◌+◌, ◌*◌, ◌≤◌, ◌<◌}
 use native.Mathlib.Numerals.{add-one}
 use lib.ListN.{length}
+use Rattle.std.specs.Prelude.{Result, Ok, Err}
 use Rattle.answer.specs.Answer.{answer}
 use Rattle.answer.specs.Ending.{accepted, refused}
 use Rattle.relation.specs.Sets.{has}
 use Rattle.region.specs.Lookup.{place}
 use Rattle.matrix.specs.Square.{Square}
-use Rattle.round.specs.declared.rounds.Came.{Came}
+use Rattle.round.specs.declared.rounds.Emptied.{Emptied}
 use Rattle.planes.specs.Planes.{matrix_planes, planes_matrix, lane_cell}
 use Rattle.planes.specs.Calls.{taken}
 use Rattle.round.specs.Calls.{Rounds}
@@ -22,6 +23,7 @@ use Rattle.refinement.specs.Refine.{rounds}
 use Rattle.refinement.specs.Plain.{Bytes}
 use Rattle.refinement.specs.Run.{after_rounds}
 use Rattle.refinement.proofs.Stages.{length-round}
+use Rattle.refinement.proofs.RanOut.{ran_out_below}
 use Rattle.refinement.proofs.PlainTest.{plain_tested}
 use Rattle.refinement.proofs.Loop.{Reached, reached_start, Says, step_says, reached_all, after_next}
 use Rattle.round.proofs.Live.{LiveRounds}
@@ -70,15 +72,9 @@ module _ {n most : ℕ} {m old new : List ℕ} {onward live count : ℕ} (now : 
   }
 
   -- a turn: the planes are kept in `old`, and the round is made from there
-  module _ (few : count < most) {old' words new' words' : List ℕ} {came : Came} (kept : old' ≡ new) (long : length words ≡ onward)
-      (made : Rounds n live old' new words new' words' came) where
+  module _ (few : count < most) {old' : List ℕ} (kept : old' ≡ new) where
     held : old' ≡ matrix_planes n (after_rounds count n m)
     held = kept ∙ now.planes
-
-    step : PlanesStep n (after_rounds count n m) new' came
-    step =
-        round_steps now.square now.settled held now.room.for_new
-        (subst (λ (x : ℕ). 64 * n ≤ x) (sym long) now.room.for_rows) made
 
     says : (s : Step) → step_of n (after_rounds count n m) ≡ s → Says n most m (after_rounds count n m) count s
     says s e = subst (Says n most m current count) e (step_says n most m current count now.reached few)
@@ -86,38 +82,46 @@ module _ {n most : ℕ} {m old new : List ℕ} {onward live count : ℕ} (now : 
     there : planes_matrix n old' ≡ after_rounds count n m
     there = back n current old' now.square now.settled.plain.bytes held
 
-    -- a set ran empty
-    pub loop_empties : came.row < n → EndsEmpty n most m old' came.row came.column (count + 1)
-    loop_empties h = record {
-      row_lt = h;
-      column_lt = step.column_lt h;
-      ending = says (Empty (place came.row) (place (ran_out n current came.row came.column)) (place came.column)) (step.empty h)
-          ∙ ap₂ (λ (x : List ℕ) (c : ℕ). refused (answer 23 came.row (ran_out n x came.row came.column) came.column c))
-          (sym there) (sym (add-one count));
-    }
+    module _ {words new' words' : List ℕ} (long : length words ≡ onward) where
+      step : {came : Result ℕ Emptied} → Rounds n live old' new words new' words' came → PlanesStep n (after_rounds count n m) new' came
+      step made =
+          round_steps now.square now.settled held now.room.for_new
+          (subst (λ (x : ℕ). 64 * n ≤ x) (sym long) now.room.for_rows) made
 
-    -- nothing changed
-    pub loop_rests : n ≤ came.row → came.changed ≡ 0 → rounds most n 0 m ≡ accepted (planes_matrix n old') count
-    loop_rests h e = (says Same (step.same h e)).ending ∙ ap (λ (x : List ℕ). accepted x count) (sym there)
+      -- a set ran empty
+      pub loop_empties : {at : Emptied} → Rounds n live old' new words new' words' (Err at) → EndsEmpty n most m old' at.row at.column (count + 1)
+      loop_empties {at} made =
+          let empty = step made in
+          record {
+            row_lt = empty.row_lt;
+            column_lt = empty.column_lt;
+            runs_out = subst (λ (x : List ℕ). ran_out n x at.row at.column < n) (sym there)
+                (ran_out_below n current now.settled.plain at.row at.column (place (ran_out n current at.row at.column)) empty.empty);
+            ending = says (Empty (place at.row) (place (ran_out n current at.row at.column)) (place at.column)) empty.empty
+                ∙ ap₂ (λ (x : List ℕ) (c : ℕ). refused (answer 23 at.row (ran_out n x at.row at.column) at.column c))
+                (sym there) (sym (add-one count));
+          }
 
-    -- no set is empty: the planes made are as many words
-    pub loop_long : n ≤ came.row → length new' ≡ 8 * n
-    loop_long h = ap length (step.made h) ∙ length_planes n (lane_cell 64 n (round n current))
+      -- nothing changed
+      pub loop_rests : {changed : ℕ} → Rounds n live old' new words new' words' (Ok changed) → changed ≡ 0 → rounds most n 0 m ≡ accepted (planes_matrix n old') count
+      loop_rests made e = (says Same ((step made).same e)).ending ∙ ap (λ (x : List ℕ). accepted x count) (sym there)
 
-    -- something changed: the regions whose column did are live
-    pub loop_goes_on : n ≤ came.row → (came.changed ≡ 0 → ⊥) → Loop n most m old' new' onward came.changed (count + 1)
-    loop_goes_on h d =
-        let next : round n current ≡ after_rounds (count + 1) n m =
-        sym (after_next count n m) ∙ ap (λ (c : ℕ). after_rounds c n m) (sym (add-one count)) in
-        record {
-          room = record {
-            for_old = ap length kept ∙ now.room.for_new;
-            for_new = loop_long h;
-            for_rows = now.room.for_rows;
-          };
-          square = subst (Square n) next (record { some = now.square.some; few = now.square.few; size = length-round n current });
-          reached = subst (λ (x : List ℕ). Reached n most m x (count + 1)) next (says Changed (step.changed h d));
-          settled = subst (λ (x : List ℕ). LiveRounds n x (has came.changed)) next (step.next h);
-          planes = step.made h ∙ ap (matrix_planes n) next;
-          before = subst (λ (c : ℕ). HeldBefore n c m old') (sym (add-one count)) there;
-        }
+      -- something changed: the regions whose column did are live
+      pub loop_goes_on : {changed : ℕ} → Rounds n live old' new words new' words' (Ok changed) → (changed ≡ 0 → ⊥)
+          → Loop n most m old' new' onward changed (count + 1)
+      loop_goes_on {changed} made d =
+          let full = step made in
+          let next : round n current ≡ after_rounds (count + 1) n m =
+          sym (after_next count n m) ∙ ap (λ (c : ℕ). after_rounds c n m) (sym (add-one count)) in
+          record {
+            room = record {
+              for_old = ap length kept ∙ now.room.for_new;
+              for_new = ap length full.made ∙ length_planes n (lane_cell 64 n (round n current));
+              for_rows = now.room.for_rows;
+            };
+            square = subst (Square n) next (record { some = now.square.some; few = now.square.few; size = length-round n current });
+            reached = subst (λ (x : List ℕ). Reached n most m x (count + 1)) next (says Changed (full.changed d));
+            settled = subst (λ (x : List ℕ). LiveRounds n x (has changed)) next full.next;
+            planes = full.made ∙ ap (matrix_planes n) next;
+            before = subst (λ (c : ℕ). HeldBefore n c m old') (sym (add-one count)) there;
+          }

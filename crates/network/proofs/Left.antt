@@ -1,66 +1,55 @@
 -- What is left where rounds ended is what the run promises.
-use mathlib.Core.Path.{◌≡◌, refl, sym, ap, ◌∙◌, subst}
-use mathlib.Core.Bool.{true}
+use mathlib.Core.Path.{◌≡◌, refl, sym, ap, ◌∙◌}
 use mathlib.Core.List.{List}
-use Prim.Native.Nat.{ℕ, zero, suc, ◌*◌, ◌≤◌}
-use lib.ListN.{length, take, replicate, length-replicate}
-use lib.Seq.{length-take-le}
+use Prim.Native.Nat.{ℕ, zero, suc, ◌*◌, ◌<◌}
+use lib.ListN.{length}
 use native.Mathlib.Nat.{zero-lt-suc}
-use native.Mathlib.Omega.{arith}
-use Rattle.std.specs.Prelude.{Err}
+use Rattle.std.specs.Prelude.{Option, Some}
+use borrow.Author.Tests.{lt-ltb}
+use Rattle.lists.specs.Least.{found_below}
 use Rattle.lists.proofs.LaidLaws.{laid_all}
 use Rattle.region.specs.Lookup.{place}
 use Rattle.matrix.specs.Square.{Square}
 use Rattle.matrix.proofs.CellLaws.{length-grid}
 use Rattle.planes.specs.Planes.{planes_matrix}
+use Rattle.planes.specs.Calls.{given}
+use Rattle.round.proofs.Steps.{gives}
 use Rattle.refinement.specs.Round.{ran_out}
 use Rattle.refinement.specs.Refine.{rounds}
-use Rattle.refinement.specs.Run.{is_plain, after_rounds}
+use Rattle.refinement.specs.Run.{after_rounds}
 use Rattle.network.specs.declared.Area.{Area}
 use Rattle.network.specs.declared.Area.TheVariants.{First, Second}
 use Rattle.network.specs.Verdict.{Verdict}
-use Rattle.network.specs.declared.Unrefined.TheVariants.{Unfinished}
 use Rattle.network.specs.declared.turning.Ended.{Ended}
 use Rattle.network.specs.declared.turning.Ended.TheVariants.{Empty, Same, UsedUp}
 use Rattle.network.specs.Areas.{other, chosen, holds}
-use Rattle.network.specs.Inner.{Startable, EndsUsedUp, Ends, Placed, Shares, Stops, Leaves, Meets}
+use Rattle.network.specs.Inner.{EndsUsedUp, Ends, Placed, Shares, Stops, Leaves, Meets}
 use Rattle.network.proofs.Endings.{meets-accepted, meets_refused, meets_unfinished}
 
 -- rounds that ended at an empty set tell a place of the matrix
-pub ends_placed : (n most : ℕ) (m old new : List ℕ) (ended : Ended) → Ends n most m old new ended → Placed n ended
+pub ends_placed : (n most : ℕ) (m old new : List ℕ) (ended : Ended) → Ends n most m old new ended → Placed n old ended
 unfolding Ends Placed
-ends_placed n most m old new (Empty row column round) e = (e.row_lt, e.column_lt)
+ends_placed n most m old new (Empty row column round) e = (e.row_lt, e.column_lt, e.runs_out)
 ends_placed n most m old new (Same count) e = tt
 ends_placed n most m old new (UsedUp count) e = tt
 
--- the matrix in the area named passed the test
-pub startable : {n : ℕ} {first second : List ℕ} (area : Area) → Square n first → Square n second → is_plain n (chosen area first second) ≡ true
-    → Startable n (chosen area first second)
-startable First p q e = record { square = p; plain = e }
-startable Second p q e = record { square = q; plain = e }
+-- the planes that are chosen for each area are given to it
+pub shares : (n : ℕ) (area : Area) (old new : List ℕ) {one other first second first' second' : List ℕ} → length old ≡ 8 * n → length new ≡ 8 * n
+    → Square n first → Square n second → one ≡ chosen area new old → other ≡ chosen area old new → first' ≡ given n one first
+    → second' ≡ given n other second → Shares n area old new first' second'
+shares n First old new {first = first} {second = second} a b p q e f g h = record {
+  in_first = g ∙ ap (λ (x : List ℕ). given n x first) e ∙ gives p new b;
+  in_second = h ∙ ap (λ (x : List ℕ). given n x second) f ∙ gives q old a;
+}
+shares n Second old new {first = first} {second = second} a b p q e f g h = record {
+  in_first = g ∙ ap (λ (x : List ℕ). given n x first) e ∙ gives p old a;
+  in_second = h ∙ ap (λ (x : List ℕ). given n x second) f ∙ gives q new b;
+}
 
--- the front of an array of zeros that has room for the planes of n regions
-pub front_long : (n most : ℕ) → n ≤ most → length (take (8 * n) (replicate {A = ℕ} (8 * most) 0)) ≡ 8 * n
-front_long n most h =
-    let long = length-replicate {A = ℕ} (8 * most) 0 in length-take-le (8 * n) (replicate (8 * most) 0) (omega arith)
-
--- by the area named
-module _ (n : ℕ) (area : Area) (old new first' second' : List ℕ) where
-  pub shares_first : area ≡ First → first' ≡ planes_matrix n new → second' ≡ planes_matrix n old → Shares n area old new first' second'
-  shares_first e f g = rw e (record { in_first = f; in_second = g })
-
-  pub shares_second : area ≡ Second → first' ≡ planes_matrix n old → second' ≡ planes_matrix n new → Shares n area old new first' second'
-  shares_second e f g = rw e (record { in_first = f; in_second = g })
-
--- rounds that are used up: none was made, or some
-module _ (n : ℕ) (area named : Area) (count : ℕ) (old new first second : List ℕ) (e : named ≡ holds area count) where
-  pub stops_none : count ≡ 0 → Stops n area count old new first second first second (Err (Unfinished count named))
-  stops_none z = record { told = ap (λ (a : Area). Err (Unfinished count a)) e; none = λ h. (refl, refl); some = λ h. absurd (omega arith) }
-
-  pub stops_some : (first' second' : List ℕ) → (count ≡ 0 → ⊥) → Shares n named old new first' second'
-      → Stops n area count old new first second first' second' (Err (Unfinished count named))
-  stops_some first' second' d s =
-      record { told = ap (λ (a : Area). Err (Unfinished count a)) e; none = λ h. absurd (d h); some = λ h. subst (λ (a : Area). Shares n a old new first' second') e s }
+-- the search in the matrix that an area was given finds a region on the way
+pub ran_out_there : {n : ℕ} {m area : List ℕ} (i j : ℕ) {found : Option ℕ} → area ≡ m → ran_out n m i j < n
+    → found ≡ found_below n (ran_out n area i j) → found ≡ Some (ran_out n m i j)
+ran_out_there {n} {m} {area} i j {found} e h f = rw (f, e, lt-ltb (ran_out n m i j) n h) refl
 
 pub size_of : (n : ℕ) (planes : List ℕ) → length (planes_matrix n planes) ≡ n * n
 size_of n planes = length-grid n _

@@ -3,7 +3,6 @@ pub mod Searches
 pub mod AreaLaws
 pub mod Endings
 pub mod Prepared
-pub mod PlainCells
 pub mod Running
 pub mod InPlanes
 pub mod Left

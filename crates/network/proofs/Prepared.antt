@@ -1,20 +1,19 @@
 -- The cells that preparing makes, what it comes to, and what it leaves in areas of exactly n² bytes.
 use mathlib.Core.Path.{◌≡◌, refl, sym, ap, ◌∙◌}
-use mathlib.Core.Bool.{Bool}
+use mathlib.Core.Bool.{Bool, cond}
 use mathlib.Core.List.{List}
 use Prim.Native.Nat.{ℕ, ◌*◌, ◌≤◌, ◌<◌}
-use borrow.Author.Tests.{lt-ltb, le-ltb, eq-eqb, ne_eqb}
-use lib.Dec.{eqb}
+use borrow.Author.Tests.{lt-ltb, le-ltb}
+use lib.Dec.{eqb, ltb}
 use lib.ListN.{length, get_or}
-use Rattle.std.specs.Prelude.{Ok, Err}
+use Rattle.std.specs.Prelude.{Ok, Err, Some, None, position}
 use Rattle.answer.specs.Ending.{accepted}
 use Rattle.lists.proofs.LaidLaws.{laid_all}
 use Rattle.region.specs.Lookup.{place}
-use Rattle.relation.specs.Relations.{equal}
-use Rattle.relation.specs.Sets.{only, intersect}
+use Rattle.relation.specs.Sets.{intersect}
 use Rattle.relation.specs.Converse.{converse}
 use Rattle.matrix.specs.Square.{Square}
-use Rattle.matrix.specs.Cells.{cell, row, column, first_empty}
+use Rattle.matrix.specs.Cells.{cell, row, column}
 use Rattle.refinement.specs.declared.Contradiction.{Contradiction}
 use Rattle.refinement.specs.declared.Contradiction.TheVariants.{Region, Pair, Triple}
 use Rattle.refinement.specs.Node.{node_cell, node, empty_region}
@@ -27,17 +26,10 @@ use Rattle.network.specs.declared.Unrefined.TheVariants.{Refused}
 use Rattle.network.specs.Refined.{leaves}
 use Rattle.network.specs.Prepared.{leaves_second}
 use Rattle.network.specs.Inner.{Prepares, Clears, started_with, Readies}
-use Rattle.network.proofs.Searches.{first_empty_in}
+use Rattle.network.proofs.Searches.{empty_in, none_in}
 use Rattle.network.proofs.Endings.{zeros_laid}
 
 -- ---- the cells by the two rules
-
-pub node_on_diagonal : (n : ℕ) (m : List ℕ) (i j stated r : ℕ) → i ≡ j → stated ≡ cell n m i j → r ≡ intersect stated (only equal)
-    → r ≡ node_cell n m i j
-node_on_diagonal n m i j stated r e f g = rw (eq-eqb i j e) (g ∙ ap (λ (x : ℕ). intersect x (only equal)) f)
-
-pub node_off_diagonal : (n : ℕ) (m : List ℕ) (i j stated : ℕ) → (i ≡ j → ⊥) → stated ≡ cell n m i j → stated ≡ node_cell n m i j
-node_off_diagonal n m i j stated d f = rw (ne_eqb i j d) f
 
 pub arc_of_nodes : (n : ℕ) (m : List ℕ) (i j own opposite turned r : ℕ) → i < n → j < n → own ≡ node_cell n m i j → opposite ≡ node_cell n m j i
     → turned ≡ converse opposite → r ≡ intersect own turned → r ≡ arc_cell n (node n m) i j
@@ -56,24 +48,23 @@ node_test n m i stated test passed h e t p = rw (node-cell n m i i h h, ← e, �
 
 -- ---- what preparing finds
 
-module _ (n : ℕ) (cells first : List ℕ) (i : ℕ) (e : i ≡ empty_region n (node n cells)) where
-  pub prepares_region : i < n → Prepares n cells first first (Err (Region (place i)))
-  prepares_region h = record { found = sym (preparation_region n cells i e h); in_first = rw (← e, lt-ltb i n h) }
+module _ (n : ℕ) (cells first : List ℕ) where
+  pub prepares_region : (i : ℕ) → i ≡ empty_region n (node n cells) → i < n → Prepares n cells first first (Err (Region (place i)))
+  prepares_region i e h = record { found = sym (preparation_region n cells i e h); in_first = rw (← e, lt-ltb i n h) }
 
-  module _ (h : n ≤ i) (area : List ℕ) (made : area ≡ prepared n cells) (p : ℕ) (f : p ≡ first_empty (length area) area) where
-    none : n ≤ empty_region n (node n cells)
-    none = rw (← e) h
+  module _ (none : n ≤ empty_region n (node n cells)) (area : List ℕ) (made : area ≡ prepared n cells) where
+    written : area ≡ cond (ltb (empty_region n (node n cells)) n) first (prepared n cells)
+    written = rw (le-ltb (empty_region n (node n cells)) n none) made
 
-    at_empty : p ≡ first_empty (n * n) (prepared n cells)
-    at_empty = first_empty_in n (prepared n cells) made (length-arc n (node n cells)) f
+    pub prepares_pair : {p : ℕ} → Some p ≡ position (λ cell. eqb cell 0) area
+        → Prepares n cells first area (Err (Pair (place (row n p)) (place (column n p))))
+    prepares_pair {p} e =
+        let at = empty_in n made (length-arc n (node n cells)) e in
+        record { found = sym (preparation_pair n cells none p at.0 at.1); in_first = written }
 
-    pub prepares_pair : p < n * n → Prepares n cells first area (Err (Pair (place (row n p)) (place (column n p))))
-    prepares_pair l =
-        record { found = sym (preparation_pair n cells none p at_empty l); in_first = rw (← e, le-ltb i n h) made }
-
-    pub prepares_ready : n * n ≤ p → Prepares n cells first area (Ok tt)
-    prepares_ready l =
-        record { found = sym (preparation_ready n cells none (rw (← at_empty) l)); in_first = rw (← e, le-ltb i n h) made }
+    pub prepares_ready : None ≡ position (λ cell. eqb cell 0) area → Prepares n cells first area (Ok tt)
+    prepares_ready e =
+        record { found = sym (preparation_ready n cells none (none_in n made (length-arc n (node n cells)) e)); in_first = written }
 
 -- ---- what follows
 

@@ -1,4 +1,4 @@
--- No second answer meets the contract of `refine`, `prepare`, `run`, `network`, `of_verdict` or `of_start`.
+-- No second answer meets the contract of `refine`, `prepare`, `run`, `network`, `of_verdict`, `of_start` or of an area and its number.
 use mathlib.Core.Path.{◌≡◌, sym, ◌∙◌}
 use contract.Lifetimes.{Lfts}
 use denote.Triple.Clauses.{AtExit}
@@ -16,6 +16,10 @@ use Rattle.network.proofs.numbers.of_verdict.Kinds as telling
 use Rattle.network.proofs.numbers.of_verdict.Reads.{Post as Tells}
 use Rattle.network.proofs.numbers.of_start.Kinds as telling-start
 use Rattle.network.proofs.numbers.of_start.Reads.{Post as TellsStart}
+use Rattle.network.proofs.numbers.UsizeFromArea.from.Kinds as numbering
+use Rattle.network.proofs.numbers.UsizeFromArea.from.Reads.{Post as Numbers}
+use Rattle.network.proofs.numbers.AreaTryFromUsize.try_from.Kinds as naming
+use Rattle.network.proofs.numbers.AreaTryFromUsize.try_from.Reads.{Post as Names}
 use Rattle.network.proofs.Verdicts.{one_verdict, one_verdict_from, one_start}
 
 -- the verdict, and what is left in the first and in the second area
@@ -59,3 +63,12 @@ of_verdict_unique κs a r r' s s' p q = told_one r r' _ p q
 pub of_start_unique : (κs : Lfts 0) (a : Dens κs telling-start.ps) (r r' : (res_t telling-start.r κs).Denot)
     (s s' : AtExit (ended_of 0 telling-start.ps telling-start.r) κs) → TellsStart κs a r s → TellsStart κs a r' s' → r ≡ r'
 of_start_unique κs a r r' s s' p q = told_one r r' _ p q
+
+-- the number of an area, and the area with a number
+pub area_number_unique : (κs : Lfts 0) (a : Dens κs numbering.ps) (r r' : (res_t numbering.r κs).Denot)
+    (s s' : AtExit (ended_of 0 numbering.ps numbering.r) κs) → Numbers κs a r s → Numbers κs a r' s' → r ≡ r'
+area_number_unique κs a r r' s s' p q = p ∙ sym q
+
+pub area_numbered_unique : (κs : Lfts 0) (a : Dens κs naming.ps) (r r' : (res_t naming.r κs).Denot)
+    (s s' : AtExit (ended_of 0 naming.ps naming.r) κs) → Names κs a r s → Names κs a r' s' → r ≡ r'
+area_numbered_unique κs a r r' s s' p q = p ∙ sym q

@@ -76,6 +76,7 @@ HeldBefore n (suc count) m old = planes_matrix n old ≡ after_rounds count n m
 pub record EndsEmpty (n most : ℕ) (m old : List ℕ) (row column round : ℕ) : Type 0 where
   pub row_lt : row < n
   pub column_lt : column < n
+  pub runs_out : ran_out n (planes_matrix n old) row column < n
   pub ending : rounds most n 0 m ≡ refused (answer 23 row (ran_out n (planes_matrix n old) row column) column round)
 
 -- the rounds are used up
@@ -90,11 +91,11 @@ Ends n most m old new (Empty row column round) = EndsEmpty n most m old row colu
 Ends n most m old new (Same count) = rounds most n 0 m ≡ accepted (planes_matrix n old) count
 Ends n most m old new (UsedUp count) = EndsUsedUp n most m old new count
 
--- a set that ran empty has its place in the matrix
-unfoldable pub Placed : ℕ → Ended → Type 0
-Placed n (Empty row column round) = (row < n) × (column < n)
-Placed n (Same count) = Unit
-Placed n (UsedUp count) = Unit
+-- a set that ran empty has its place in the matrix, and so has the region on the way to it
+unfoldable pub Placed : ℕ → List ℕ → Ended → Type 0
+Placed n old (Empty row column round) = (row < n) × (column < n) × (ran_out n (planes_matrix n old) row column < n)
+Placed n old (Same count) = Unit
+Placed n old (UsedUp count) = Unit
 
 -- both areas are cleared and the triple is told
 pub record Refuses (n row column round : ℕ) (old first second first' second' : List ℕ) (verdict : Verdict) : Type 0 where

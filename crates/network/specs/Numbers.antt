@@ -1,15 +1,20 @@
 -- The documents' number, places and count of each verdict, and of what a preparation comes to.
-use Rattle.std.specs.Prelude.{ℕ, Ok, Err}
+use Rattle.std.specs.Prelude.{ℕ, cond, eqb, Result, Ok, Err}
 use Rattle.answer.specs.Answer.{Answer, answer, accepts}
 use Rattle.network.specs.declared.Area.{Area}
 use Rattle.network.specs.declared.Area.TheVariants.{First, Second}
 use Rattle.refinement.specs.declared.Contradiction.TheVariants.{Region, Pair, Triple}
+use Rattle.network.specs.declared.Unrefined.{Unrefined}
 use Rattle.network.specs.declared.Unrefined.TheVariants.{Refused, Unfinished, Unprepared, OutOfRange, WrongLength}
 use Rattle.network.specs.Verdict.{Verdict, Start}
 
 abbrev pub area_number : Area → ℕ
 area_number First = 1
 area_number Second = 2
+
+-- the area with a number; another number is out of range
+abbrev pub area_numbered : ℕ → Result Area Unrefined
+area_numbered number = cond (eqb number 1) (Ok First) (cond (eqb number 2) (Ok Second) (Err OutOfRange))
 
 -- 24 names the area that holds the network
 abbrev pub answer_of : Verdict → Answer

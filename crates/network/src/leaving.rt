@@ -1,10 +1,13 @@
 // What some rounds leave in the two areas, and their verdict.
 ghost use Rattle.std.specs.Prelude.{◌≡◌, ◌*◌, ◌<◌, length};
 ghost use Rattle.matrix.specs.Square.{Square};
+ghost use Rattle.planes.specs.Planes.{planes_matrix};
+ghost use Rattle.refinement.specs.Round.{ran_out};
 ghost use Rattle.network.specs.Inner.{Placed, Refuses, Rests, Shares, Stops, Leaves};
 
-use crate::areas::{clear, holds, other};
+use crate::areas::{clear, holds, named, other};
 use crate::emptied::ran_out;
+use crate::lent::Matrix;
 use crate::turning::Ended;
 use crate::{Accepted, Area, Contradiction, Unrefined};
 use planes::give;
@@ -20,11 +23,12 @@ fn refuse(
     first: &mut [u8],
     second: &mut [u8],
 ) -> Result<Accepted, Unrefined>
-    requires { (row < n) × (column < n) × (length old.now ≡ 8 * n) × Square n first.old × Square n second.old }
+    requires placed { (row < n) × (column < n) × (ran_out n (planes_matrix n old.now) row column < n) }
+    requires long { (length old.now ≡ 8 * n) × Square n first.old × Square n second.old }
     ensures { Refuses n row column round old.now first.old second.old first.new second.new result }
 {
     give(n, old, first);
-    let k = ran_out(n, first, row, column);
+    let k = ran_out(&Matrix { n, cells: first }, row, column).unwrap();
     clear(first, second);
     Err(Unrefined::Refused(
         Contradiction::Triple(Place(row), Place(k), Place(column)),
@@ -33,6 +37,7 @@ fn refuse(
 }
 
 // Nothing changed: both areas hold the network.
+#[tactic(auto, using(round::proofs::Steps::gives))]
 fn accept(
     n: usize,
     area: Area,
@@ -58,16 +63,8 @@ fn give_both(n: usize, area: Area, old: &[u64], new: &[u64], first: &mut [u8], s
     requires { (length old.now ≡ 8 * n) × (length new.now ≡ 8 * n) × Square n first.old × Square n second.old }
     ensures { Shares n area old.now new.now first.new second.new }
 {
-    match area {
-        Area::First => {
-            give(n, new, first);
-            give(n, old, second);
-        }
-        Area::Second => {
-            give(n, old, first);
-            give(n, new, second);
-        }
-    }
+    give(n, named(area, new, old), first);
+    give(n, named(area, old, new), second);
 }
 
 // The rounds are used up; where none was made, both areas are as they were.
@@ -94,6 +91,7 @@ fn use_up(
 }
 
 // By how the rounds ended.
+#[tactic(auto, unfolding(crate::specs::Inner::Placed, crate::specs::Inner::Leaves))]
 pub(crate) fn leave(
     n: usize,
     area: Area,
@@ -103,7 +101,7 @@ pub(crate) fn leave(
     first: &mut [u8],
     second: &mut [u8],
 ) -> Result<Accepted, Unrefined>
-    requires { Placed n ended × (length old.now ≡ 8 * n) × (length new.now ≡ 8 * n) × Square n first.old × Square n second.old }
+    requires { Placed n old.now ended × (length old.now ≡ 8 * n) × (length new.now ≡ 8 * n) × Square n first.old × Square n second.old }
     ensures { Leaves n area ended old.now new.now first.old second.old first.new second.new result }
 {
     match ended {

@@ -4,6 +4,7 @@
 mod areas;
 mod emptied;
 mod leaving;
+mod lent;
 pub mod numbers;
 mod plain;
 mod preparing;
@@ -41,7 +42,7 @@ pub enum Unrefined {
     Unfinished { rounds: usize, area: Area },
     // The network to start from has an empty set, a diagonal other than equal, or a pair not converse.
     Unprepared,
-    // The number of regions is not from 1 to 64.
+    // The number of regions is not from 1 to 64, or no area has the number given.
     OutOfRange,
     // The cells are not n², or an area is shorter.
     WrongLength,
@@ -51,6 +52,7 @@ pub enum Unrefined {
 const ENOUGH: usize = 14113;
 
 // Prepares the matrix of n regions: the checks, then the node and arc rules. The rounds can start from the first area.
+#[tactic(auto, using(crate::proofs::Fronts::cells_fit))]
 pub fn prepare(n: usize, cells: &[u8], first: &mut [u8], second: &mut [u8]) -> Result<(), Unrefined>
     ensures { Prepared n cells.now first.old second.old first.new second.new result }
 {
@@ -58,20 +60,14 @@ pub fn prepare(n: usize, cells: &[u8], first: &mut [u8], second: &mut [u8]) -> R
         return Err(Unrefined::OutOfRange);
     }
     let size = n * n;
-    if cells.len() != size {
-        return Err(Unrefined::WrongLength);
-    }
-    let room = first.len();
-    if room < size {
-        return Err(Unrefined::WrongLength);
-    }
-    if second.len() < size {
+    if cells.len() != size || first.len() < size || second.len() < size {
         return Err(Unrefined::WrongLength);
     }
     preparing::make_ready(n, cells, &mut first[..size], &mut second[..size])
 }
 
 // Up to so many rounds, the confirming one included, from the network in the area named.
+#[tactic(auto, using(crate::proofs::Fronts::cells_fit))]
 pub fn run(
     n: usize,
     area: Area,
@@ -85,10 +81,7 @@ pub fn run(
         return Err(Unrefined::OutOfRange);
     }
     let size = n * n;
-    if first.len() < size {
-        return Err(Unrefined::WrongLength);
-    }
-    if second.len() < size {
+    if first.len() < size || second.len() < size {
         return Err(Unrefined::WrongLength);
     }
     rounds::run(n, area, most, &mut first[..size], &mut second[..size])
@@ -109,6 +102,7 @@ pub fn refine(
 
 // The network of an accepting verdict: the first n² bytes of the area that it names, that area itself. An empty part of the
 // first area for a refusal, an n outside 1 to 64, or an area shorter than n².
+#[tactic(auto, using(crate::proofs::Fronts::cells_fit))]
 pub fn network<'a>(
     first: &'a [u8],
     second: &'a [u8],
@@ -122,12 +116,9 @@ pub fn network<'a>(
     if !matrix::in_range(regions) {
         return &first[..0];
     }
-    let size = regions * regions;
-    if first.len() < size || second.len() < size {
+    let cells = regions * regions;
+    if first.len() < cells || second.len() < cells {
         return &first[..0];
     }
-    match area {
-        Area::First => &first[..size],
-        Area::Second => &second[..size],
-    }
+    &areas::named(area, first, second)[..cells]
 }

@@ -1,7 +1,7 @@
 // The documents' numbers of a verdict and of a preparation.
 ghost use Rattle.std.specs.Prelude.{◌≡◌};
 ghost use Rattle.answer.specs.Told.{told};
-ghost use Rattle.network.specs.Numbers.{area_number, answer_of, answer_of_start};
+ghost use Rattle.network.specs.Numbers.{area_number, area_numbered, answer_of, answer_of_start};
 
 use crate::{Accepted, Area, Contradiction, Unrefined};
 use answer::{Numbers, tell};
@@ -18,12 +18,29 @@ fn of_contradiction(contradiction: Contradiction, rounds: usize) -> Numbers
 }
 
 // 1 for the first area and 2 for the second.
-fn of_area(area: Area) -> usize
-    ensures { result ≡ area_number area }
-{
-    match area {
-        Area::First => 1,
-        Area::Second => 2,
+impl From<Area> for usize {
+    ghost from_gives = { λ area number. number ≡ area_number area };
+
+    fn from(area: Area) -> usize {
+        match area {
+            Area::First => 1,
+            Area::Second => 2,
+        }
+    }
+}
+
+// Another number is out of range.
+impl TryFrom<usize> for Area {
+    type Error = Unrefined;
+
+    ghost try_from_gives = { λ number area. area ≡ area_numbered number };
+
+    fn try_from(number: usize) -> Result<Area, Unrefined> {
+        match number {
+            1 => Ok(Area::First),
+            2 => Ok(Area::Second),
+            _ => Err(Unrefined::OutOfRange),
+        }
     }
 }
 
@@ -33,7 +50,7 @@ fn of_unrefined(unrefined: Unrefined) -> Numbers
 {
     match unrefined {
         Unrefined::Refused(contradiction, rounds) => of_contradiction(contradiction, rounds),
-        Unrefined::Unfinished { rounds, area } => tell(24, of_area(area), 0, 0, rounds),
+        Unrefined::Unfinished { rounds, area } => tell(24, usize::from(area), 0, 0, rounds),
         Unrefined::Unprepared => tell(25, 0, 0, 0, 0),
         Unrefined::OutOfRange => tell(1, 0, 0, 0, 0),
         Unrefined::WrongLength => tell(2, 0, 0, 0, 0),

@@ -1,36 +1,19 @@
 // Some rounds, from a matrix in one of the areas.
-ghost use Rattle.std.specs.Prelude.{◌≡◌, ◌≤◌, length};
+ghost use Rattle.std.specs.Prelude.{◌≡◌, ◌*◌, ◌≤◌, length};
 ghost use Rattle.matrix.specs.Square.{Square};
 ghost use Rattle.refinement.specs.Refine.{rounds};
 ghost use Rattle.network.specs.Areas.{chosen};
-ghost use Rattle.network.specs.Inner.{Room, Startable, Ends, Meets, rounds_or};
+ghost use Rattle.network.specs.Inner.{Room, Startable, Meets, rounds_or};
 
+use crate::areas::named;
 use crate::leaving::leave;
-use crate::plain::is_plain_in;
-use crate::turning::{Ended, some_rounds};
+use crate::lent::Matrix;
+use crate::plain::is_plain;
+use crate::turning::some_rounds;
 use crate::{Accepted, Area, Unrefined};
 
-// Up to so many rounds from the matrix in the area named.
-fn rounds_from(
-    n: usize,
-    area: Area,
-    most: usize,
-    first: &[u8],
-    second: &[u8],
-    old: &mut [u64],
-    new: &mut [u64],
-    onward: &mut [u64],
-) -> Ended
-    requires { Startable n (chosen area first.now second.now) × Room n (length old.old) (length new.old) (length onward.old) }
-    ensures { Ends n most (chosen area first.now second.now) old.new new.new result }
-{
-    match area {
-        Area::First => some_rounds(n, most, first, old, new, onward),
-        Area::Second => some_rounds(n, most, second, old, new, onward),
-    }
-}
-
-// The rounds in the room lent for their planes, and what they leave.
+// The rounds in the room lent for their planes, and what they leave. `old`, `new` and `onward` stay three parameters: a round reads one and
+// writes two, so a struct of three `&mut` would be taken apart again at each call and be no plainer. The areas come apart from C.
 fn run_in(
     n: usize,
     area: Area,
@@ -44,52 +27,27 @@ fn run_in(
     requires { Startable n (chosen area first.old second.old) × Room n (length old.old) (length new.old) (length onward.old) × Square n first.old × Square n second.old }
     ensures { Meets n area (rounds most n 0 (chosen area first.old second.old)) first.old second.old first.new second.new result }
 {
-    let ended = rounds_from(n, area, most, first, second, old, new, onward);
+    let cells = named(area, first, second);
+    let ended = some_rounds(n, most, cells, old, new, onward);
     leave(n, area, ended, old, new, first, second)
 }
 
-// The rounds of up to 16 regions: with less room, which is filled with 0 before anything else.
-fn run_few(
+// The rounds with room for so many words of planes, which is filled with 0 before anything else.
+fn run_with_room<const WORDS: usize, const ONWARD: usize>(
     n: usize,
     area: Area,
     most: usize,
     first: &mut [u8],
     second: &mut [u8],
 ) -> Result<Accepted, Unrefined>
-    requires { (n ≤ 16) × Startable n (chosen area first.old second.old) × Square n first.old × Square n second.old }
+    requires room { (8 * n ≤ WORDS) × (64 * n ≤ ONWARD) × (WORDS ≤ 512) × (ONWARD ≤ 4096) }
+    requires from { Startable n (chosen area first.old second.old) × Square n first.old × Square n second.old }
     ensures { Meets n area (rounds most n 0 (chosen area first.old second.old)) first.old second.old first.new second.new result }
 {
     let words = 8 * n;
-    let mut old = [0u64; 128];
-    let mut new = [0u64; 128];
-    let mut onward = [0u64; 1024];
-    run_in(
-        n,
-        area,
-        most,
-        first,
-        second,
-        &mut old[..words],
-        &mut new[..words],
-        &mut onward,
-    )
-}
-
-// The rounds of up to 64 regions.
-fn run_many(
-    n: usize,
-    area: Area,
-    most: usize,
-    first: &mut [u8],
-    second: &mut [u8],
-) -> Result<Accepted, Unrefined>
-    requires { (n ≤ 64) × Startable n (chosen area first.old second.old) × Square n first.old × Square n second.old }
-    ensures { Meets n area (rounds most n 0 (chosen area first.old second.old)) first.old second.old first.new second.new result }
-{
-    let words = 8 * n;
-    let mut old = [0u64; 512];
-    let mut new = [0u64; 512];
-    let mut onward = [0u64; 4096];
+    let mut old = [0u64; WORDS];
+    let mut new = [0u64; WORDS];
+    let mut onward = [0u64; ONWARD];
     run_in(
         n,
         area,
@@ -113,11 +71,13 @@ pub(crate) fn run(
     requires { Square n first.old × Square n second.old }
     ensures { Meets n area (rounds_or n most (chosen area first.old second.old)) first.old second.old first.new second.new result }
 {
-    if !is_plain_in(n, area, first, second) {
+    if !is_plain(&Matrix { n, cells: named(area, first, second) }) {
         return Err(Unrefined::Unprepared);
     }
+    // Up to 16 regions need a quarter of the room.
     if n <= 16 {
-        return run_few(n, area, most, first, second);
+        run_with_room::<128, 1024>(n, area, most, first, second)
+    } else {
+        run_with_room::<512, 4096>(n, area, most, first, second)
     }
-    run_many(n, area, most, first, second)
 }

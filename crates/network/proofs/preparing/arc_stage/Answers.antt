@@ -21,8 +21,8 @@ loop-place-init c = filling_begins _ _
 
 pub loop-place-preserved : goal.loop-place-preserved
 loop-place-preserved c =
-    filling_more _ _ _ _ (fits _ c.requires.1) c.loop-place.invariant _ c.loop-place-test.true
-    (prepared_at c.args.n c.args.cells.now c.loop-place.place _ (omega arith) c.arc_cell.ensures)
+    filling_more _ _ _ _ (fits _ c.requires) c.loop-place.invariant _ (omega arith)
+    (prepared_at c.args.cells.now.n c.args.cells.now.cells.now c.loop-place.place _ (omega arith) c.arc_cell.ensures)
 
 pub returns : goal.returns
-returns c = filling_ends _ _ _ _ (fits _ c.requires.1) c.loop-place.invariant c.loop-place-test.false
+returns c = filling_ends _ _ _ _ (fits _ c.requires) c.loop-place.invariant (omega arith)

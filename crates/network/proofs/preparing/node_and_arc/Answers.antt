@@ -1,17 +1,17 @@
 -- `preparing::node_and_arc` meets its contract: its tests are those of the definition.
 use native.Mathlib.Omega.{arith}
+use Rattle.lists.proofs.Found.{found_some, found_none}
 use Rattle.network.proofs.Prepared.{prepares_region, prepares_pair, prepares_ready}
 use Rattle.network.proofs.preparing.node_and_arc.Goals as goal
 
-pub returns-then-i-n : goal.returns-then-i-n
-returns-then-i-n c = prepares_region _ _ _ _ c.emptied_region-i.ensures c.if-i-n.true
+pub returns-in-Some : goal.returns-in-Some
+returns-in-Some c =
+    let found = found_some _ _ c.in-Some.ensures in prepares_region _ _ _ _ found.0 (omega (arith, found.0, found.1))
 
-pub returns-then-place-first : goal.returns-then-place-first
-returns-then-place-first c =
-    prepares_pair _ _ _ _ c.emptied_region-i.ensures c.if-i-n.false _ c.arc_stage.ensures _
-    c.first_empty-place.ensures (omega arith)
+pub returns-in-Some-first_empty : goal.returns-in-Some-first_empty
+returns-in-Some-first_empty c =
+    prepares_pair _ _ _ (found_none _ _ c.in_default.ensures) _ c.arc_stage.ensures c.in-Some-first_empty.ensures
 
-pub returns : goal.returns
-returns c =
-    prepares_ready _ _ _ _ c.emptied_region-i.ensures c.if-i-n.false _ c.arc_stage.ensures _
-    c.first_empty-place.ensures (omega arith)
+pub returns-in-None : goal.returns-in-None
+returns-in-None c =
+    prepares_ready _ _ _ (found_none _ _ c.in_default.ensures) _ c.arc_stage.ensures c.in-None.ensures

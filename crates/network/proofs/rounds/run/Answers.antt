@@ -3,5 +3,6 @@ use mathlib.Core.Path.{sym, ◌∙◌}
 use Rattle.network.proofs.Endings.{unplain_meets}
 use Rattle.network.proofs.rounds.run.Goals as goal
 
-pub returns-then-not-is_plain_in : goal.returns-then-not-is_plain_in
-returns-then-not-is_plain_in c = unplain_meets _ _ _ _ _ (sym c.is_plain_in.ensures ∙ c.if-not-is_plain_in.true)
+pub returns-then-not-is_plain : goal.returns-then-not-is_plain
+returns-then-not-is_plain c =
+    let tested = rw c.named.ensures.bytes at c.is_plain.ensures in unplain_meets _ _ _ _ _ (sym tested ∙ c.if-not-is_plain.true)
