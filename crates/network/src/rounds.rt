@@ -71,7 +71,10 @@ pub(crate) fn run(
     requires { Square n first.old × Square n second.old }
     ensures { Meets n area (rounds_or n most (chosen area first.old second.old)) first.old second.old first.new second.new result }
 {
-    if !is_plain(&Matrix { n, cells: named(area, first, second) }) {
+    if !is_plain(&Matrix {
+        n,
+        cells: named(area, first, second),
+    }) {
         return Err(Unrefined::Unprepared);
     }
     // Up to 16 regions need a quarter of the room.

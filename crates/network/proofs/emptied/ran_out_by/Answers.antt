@@ -1,9 +1,9 @@
 -- `emptied::ran_out_by` meets its contract. The loop's invariant: the set is (i, j) intersected with the compositions through the places
 -- below k, and it was not empty at any of them.
-use Prim.Native.Nat.{◌+◌, ◌*◌, ◌<◌}
+use Prim.Native.Nat.{◌<◌}
 use Rattle.std.proofs.Common.{rules}
 use native.Mathlib.Omega.{arith}
-use Rattle.network.proofs.Searches.{cell_in, found_at, found_past}
+use Rattle.network.proofs.Searches.{found_at, found_past}
 use Rattle.network.proofs.Running.{running_starts, running_on, running_out, running_ends}
 use Rattle.network.proofs.emptied.ran_out_by.Goals as goal
 
