@@ -29,7 +29,7 @@ impl From<Area> for usize {
     }
 }
 
-// Another number is out of range.
+// The area with a number; a number that no area has is out of range.
 impl TryFrom<usize> for Area {
     type Error = Unrefined;
 
