@@ -7,6 +7,7 @@ use crate::Unwritten;
 use answer::{Numbers, tell};
 use scene::format::MOST_BYTES;
 
+// A function and no From: docs/PROOFS.md has its contract by this name.
 pub fn of_writing(writing: Result<usize, Unwritten>) -> Numbers
     ensures { told result ≡ answer_of writing }
 {
