@@ -1,13 +1,21 @@
 -- Identifiers and marks as they cross to C, one behind the other, and numbers that bytes hold.
-use mathlib.Core.Path.{◌≡◌, refl, sym, ap, ◌∙◌}
-use mathlib.Core.List.{List, [], ◌∷◌, ◌++◌, append_assoc}
+use mathlib.Core.Path.{◌≡◌, refl, sym, ap, ap₂, ◌∙◌}
+use mathlib.Core.List.{List, [], ◌∷◌, ◌++◌, append_assoc, append-nil}
 use Prim.Native.Nat.{ℕ, zero, suc, ◌+◌, ◌*◌, ◌≤◌, ◌<◌}
+use native.Mathlib.Nat.{add-zero, mul-le-mul}
 use native.Mathlib.Numerals.{add-one, unary_clauses}
 use native.Mathlib.Omega.{arith}
-use lib.ListN.{length, get_or, take, set, length-append}
-use lib.Seq.{take_all, take-suc, take-suc-set}
-use Rattle.lists.specs.BigEndian.{big_endian, number_at, number_put, numbers_bytes, numbers_in, two_bytes, two_bytes_put, two_bytes_each}
-use Rattle.lists.proofs.BigEndianLaws.{put_behind, two_behind}
+use lib.ListN.{length, get_or, take, length-append}
+use lib.Seq.{take_all, take-suc}
+use Rattle.std.specs.List.{flat_map}
+use Rattle.std.proofs.lemmas.List.{take-append-le}
+use Rattle.lists.proofs.Splits.{split_lt}
+use Rattle.std.proofs.lemmas.Grind.{flat_map-append}
+use Rattle.lanes.specs.Lists.{list_of}
+use Rattle.lanes.proofs.Lists.{list_split}
+use Rattle.lists.specs.Tabled.{tabled}
+use Rattle.lists.specs.BigEndian.{big_endian, number_at, bytes_put, numbers_bytes, numbers_in, two_bytes, two_bytes_each}
+use Rattle.lists.proofs.BigEndianLaws.{bytes_behind}
 
 pub numbers_both : (l m : List ℕ) → numbers_bytes (l ++ m) ≡ numbers_bytes l ++ numbers_bytes m
 unfolding numbers_bytes
@@ -18,83 +26,84 @@ pub numbers_one : (x : ℕ) → numbers_bytes (x ∷ []) ≡ big_endian x
 unfolding numbers_bytes
 numbers_one x = refl
 
-pub marks_more : (l : List ℕ) (x : ℕ) → two_bytes_each (l ++ (x ∷ [])) ≡ two_bytes_each l ++ two_bytes x
-unfolding two_bytes_each
-marks_more [] x = refl
-marks_more (y ∷ l) x =
-    ap (λ (r : List ℕ). two_bytes y ++ r) (marks_more l x) ∙ sym (append_assoc (two_bytes y) (two_bytes_each l) (two_bytes x))
-
 -- ---- an area that numbers are put into, one behind the other
 
--- numbers as bytes: those of none, and of one more
-pub record Laying (bytes_of : List ℕ → List ℕ) (bytesOfOne : ℕ → List ℕ) : Type 0 where
-  pub none : bytes_of [] ≡ []
-  pub more : (l : List ℕ) (x : ℕ) → bytes_of (l ++ (x ∷ [])) ≡ bytes_of l ++ bytesOfOne x
+-- the first `place` of the numbers stand in front of the bytes
+pub record Crossed {A : Type 0} (bytes_of : A → List ℕ) (width : ℕ) (numbers : List A) (place : ℕ) (bytes : List ℕ) : Type 0 where
+  pub long : length bytes ≡ width * length numbers
+  pub front : take (width * place) bytes ≡ flat_map bytes_of (take place numbers)
 
-pub identifiers_lay : Laying numbers_bytes big_endian
-unfolding numbers_bytes
-identifiers_lay = record {
-  none = refl;
-  more = λ l x. numbers_both l (x ∷ []) ∙ ap (λ (r : List ℕ). numbers_bytes l ++ r) (numbers_one x);
-}
+module _ {A : Type 0} (bytes_of : A → List ℕ) (width : ℕ) (numbers : List A) where
+  pub crossed_none : (bytes : List ℕ) → length bytes ≡ width * length numbers → Crossed bytes_of width numbers 0 bytes
+  crossed_none bytes h = record { long = h; front = simp unary_clauses refl }
 
-pub marks_lay : Laying two_bytes_each two_bytes
-unfolding two_bytes_each
-marks_lay = record { none = refl; more = marks_more }
+  -- there is room for one more
+  pub crossed_room : (bytes : List ℕ) (place : ℕ) → place < length numbers → Crossed bytes_of width numbers place bytes
+      → width * place + width ≤ length bytes
+  crossed_room bytes place h c =
+      let same : width ≤ width = omega arith in
+      let inside : place + 1 ≤ length numbers = omega arith in
+      let next : width * (place + 1) ≡ width * place + width = omega arith in
+      let most : width * (place + 1) ≤ width * length numbers = mul-le-mul same inside in
+      omega (arith, c.long)
 
--- the first `place` of `count` numbers stand in front of an area of `size` bytes, `width` bytes each
-pub record Crossed (bytes_of : List ℕ → List ℕ) (width count size : ℕ) (numbers : List ℕ) (place : ℕ) (bytes : List ℕ) : Type 0 where
-  pub within : place ≤ count
-  pub long : length bytes ≡ size
-  pub front : take (width * place) bytes ≡ bytes_of (take place numbers)
-
-module _ {bytes_of : List ℕ → List ℕ} {bytesOfOne : ℕ → List ℕ} {width count size : ℕ} (law : Laying bytes_of bytesOfOne) where
-  pub crossed_none : (numbers bytes : List ℕ) → length bytes ≡ size → Crossed bytes_of width count size numbers 0 bytes
-  crossed_none numbers bytes h = record { within = omega arith; long = h; front = simp unary_clauses (sym law.none) }
-
-  pub crossed_more : {numbers : List ℕ} {place : ℕ} {bytes : List ℕ} (bytes' : List ℕ) → Crossed bytes_of width count size numbers place bytes
-      → place < count → length numbers ≡ count → width * (place + 1) ≡ width * place + width
-      → (take (width * place + width) bytes' ≡ bytes_of (take place numbers) ++ bytesOfOne (get_or numbers place 0)) × (length bytes' ≡ length bytes)
-      → Crossed bytes_of width count size numbers (place + 1) bytes'
-  crossed_more {numbers} {place} bytes' c h l next put =
-      let one : take (place + 1) numbers ≡ take place numbers ++ (get_or numbers place 0 ∷ []) =
-      rw (add-one place) (take-suc numbers place 0 (omega arith)) in
+  pub crossed_more : (wide : (x : A) → length (bytes_of x) ≡ width) (bytes bytes' : List ℕ) (place : ℕ) (x : A) → place < length numbers
+      → x ≡ get_or numbers place x → Crossed bytes_of width numbers place bytes → bytes' ≡ bytes_put bytes (width * place) (bytes_of x)
+      → Crossed bytes_of width numbers (place + 1) bytes'
+  crossed_more wide bytes bytes' place x h is c put =
+      let next : width * (place + 1) ≡ width * place + width = omega arith in
+      let one : take (place + 1) numbers ≡ take place numbers ++ (x ∷ []) =
+      rw (add-one place) (take-suc numbers place x h ∙ ap (λ y. take place numbers ++ (y ∷ [])) (sym is)) in
+      let behind = bytes_behind bytes bytes' (flat_map bytes_of (take place numbers)) (bytes_of x) (width * place)
+      (omega (arith, wide x, crossed_room bytes place h c)) c.front put in
       record {
-        within = omega arith;
-        long = put.1 ∙ c.long;
-        front = ap (λ (k : ℕ). take k bytes') next ∙ put.0 ∙ sym (ap bytes_of one ∙ law.more (take place numbers) (get_or numbers place 0));
+        long = behind.1 ∙ c.long;
+        front = ap (λ k. take k bytes') (next ∙ ap (λ k. width * place + k) (sym (wide x))) ∙ behind.0
+            ∙ sym (ap (flat_map bytes_of) one ∙ flat_map-append bytes_of (take place numbers) (x ∷ [])
+            ∙ ap (λ l. flat_map bytes_of (take place numbers) ++ l) (append-nil (bytes_of x)));
       }
 
-  pub crossed_all : {numbers : List ℕ} {place : ℕ} {bytes : List ℕ} → Crossed bytes_of width count size numbers place bytes → count ≤ place
-      → length numbers ≡ count → size ≤ width * count → bytes ≡ bytes_of numbers
-  crossed_all {numbers} {place} {bytes} c h l whole =
-      let same : place ≡ count = omega (arith, c.within) in
-      sym (take_all (width * place) bytes (rw (same, c.long) whole)) ∙ c.front ∙ ap bytes_of (take_all place numbers (omega arith))
+  pub crossed_all : (bytes : List ℕ) (place : ℕ) → length numbers ≤ place → place ≤ length numbers → Crossed bytes_of width numbers place bytes
+      → bytes ≡ flat_map bytes_of numbers
+  crossed_all bytes place h k c =
+      let same : place ≡ length numbers = omega arith in
+      sym (take_all (width * place) bytes (rw same (omega (arith, c.long)))) ∙ c.front ∙ ap (flat_map bytes_of) (take_all place numbers h)
 
--- one more identifier, and one more mark
-pub identifier_crosses : {identifiers : List ℕ} {place : ℕ} {bytes : List ℕ} (bytes' : List ℕ)
-    → Crossed numbers_bytes 4 64 256 identifiers place bytes → place < 64 → length identifiers ≡ 64
-    → bytes' ≡ number_put bytes (4 * place) (get_or identifiers place 0) → Crossed numbers_bytes 4 64 256 identifiers (place + 1) bytes'
-identifier_crosses {identifiers} {place} {bytes} bytes' c h l e =
-    crossed_more identifiers_lay bytes' c h l (omega arith)
-    (put_behind bytes bytes' (numbers_bytes (take place identifiers)) (4 * place) (get_or identifiers place 0) (omega (arith, c.long)) c.front e)
+pub identifiers_flat : (identifiers : List ℕ) → flat_map big_endian identifiers ≡ numbers_bytes identifiers
+unfolding numbers_bytes
+identifiers_flat [] = refl
+identifiers_flat (x ∷ rest) = ap (λ (l : List ℕ). big_endian x ++ l) (identifiers_flat rest)
 
-pub mark_crosses : {marks : List ℕ} {place : ℕ} {bytes : List ℕ} (bytes' : List ℕ)
-    → Crossed two_bytes_each 2 4096 8192 marks place bytes → place < 4096 → length marks ≡ 4096
-    → bytes' ≡ two_bytes_put bytes (2 * place) (get_or marks place 0) → Crossed two_bytes_each 2 4096 8192 marks (place + 1) bytes'
-mark_crosses {marks} {place} {bytes} bytes' c h l e =
-    crossed_more marks_lay bytes' c h l (omega arith)
-    (two_behind bytes bytes' (two_bytes_each (take place marks)) (2 * place) (get_or marks place 0) (omega (arith, c.long)) c.front e)
+pub marks_flat : (marks : List ℕ) → flat_map two_bytes marks ≡ two_bytes_each marks
+unfolding two_bytes_each
+marks_flat [] = refl
+marks_flat (x ∷ rest) = ap (λ (l : List ℕ). two_bytes x ++ l) (marks_flat rest)
 
 -- ---- numbers that bytes hold
-
--- one more
-pub one_held : (bytes identifiers : List ℕ) (place number : ℕ) → place < length identifiers → take place identifiers ≡ numbers_in place bytes
-    → number ≡ number_at bytes (4 * place) → take (place + 1) (set identifiers place number) ≡ numbers_in (place + 1) bytes
-unfolding numbers_in
-one_held bytes identifiers place number h e f = rw (add-one place, take-suc-set identifiers place number h, e, f)
 
 pub length_numbers : (n : ℕ) (bytes : List ℕ) → length (numbers_in n bytes) ≡ n
 unfolding numbers_in
 length_numbers zero bytes = refl
 length_numbers (suc n) bytes = omega (arith, length-append (numbers_in n bytes) (number_at bytes (4 * n) ∷ []), length_numbers n bytes)
+
+-- the first of more of them
+pub numbers_front : (n count : ℕ) (bytes : List ℕ) → n ≤ count → take n (numbers_in count bytes) ≡ numbers_in n bytes
+unfolding numbers_in
+numbers_front n zero bytes h = let none : n ≡ 0 = omega arith in rw none
+numbers_front n (suc count) bytes h =
+    let last : List ℕ = number_at bytes (4 * count) ∷ [] in
+    split_lt count n
+    (λ l.
+    let all : n ≡ suc count = omega arith in
+    ap (λ (k : ℕ). take k (numbers_in count bytes ++ last)) all ∙ take_all (suc count) (numbers_in count bytes ++ last) (omega (arith, length_numbers (suc count) bytes))
+    ∙ ap (λ (k : ℕ). numbers_in k bytes) (sym all))
+    (λ l. take-append-le n (numbers_in count bytes) last (omega (arith, length_numbers count bytes)) ∙ numbers_front n count bytes l)
+
+-- the first n are listed by their places
+pub numbers_listed : (n : ℕ) (bytes : List ℕ) → numbers_in n bytes ≡ list_of n (λ k. number_at bytes (4 * k))
+unfolding numbers_in tabled
+numbers_listed zero bytes = refl
+numbers_listed (suc n) bytes =
+    let f : ℕ → ℕ = λ k. number_at bytes (4 * k) in
+    let more : list_of (suc n) f ≡ list_of n f ++ list_of 1 (λ k. f (n + k)) = rw add-one at (list_split n 1 f) in
+    ap₂ (λ (l : List ℕ) (x : ℕ). l ++ (x ∷ [])) (numbers_listed n bytes) (ap f (sym (add-zero n))) ∙ sym more

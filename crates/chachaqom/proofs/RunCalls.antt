@@ -7,6 +7,7 @@ use native.Mathlib.Omega.{arith}
 use borrow.Author.Tests.{eq-eqb, eqb-true}
 use lib.Dec.{eqb}
 use lib.ListN.{length}
+use Rattle.std.proofs.Common.{Ok, Err}
 use Rattle.lists.specs.BigEndian.{number_at}
 use Rattle.lists.proofs.Splits.{by_test}
 use Rattle.region.specs.Lookup.{place}
@@ -17,9 +18,9 @@ use Rattle.refinement.proofs.Limits.{by_ran}
 use Rattle.refinement.proofs.Sharing.{RoundsEnd, at_network, at_triple, at_last, rounds_ended}
 use Rattle.network.specs.declared.Area.{Area}
 use Rattle.network.specs.declared.Area.TheVariants.{First, Second}
-use Rattle.network.specs.declared.Contradiction.TheVariants.{Region, Pair, Triple}
-use Rattle.network.specs.declared.Verdict.{Verdict}
-use Rattle.network.specs.declared.Verdict.TheVariants.{Accepted, Refused, Unfinished, Unprepared, OutOfRange, WrongLength}
+use Rattle.refinement.specs.declared.Contradiction.TheVariants.{Region, Pair, Triple}
+use Rattle.network.specs.declared.Unrefined.TheVariants.{Refused, Unfinished, Unprepared, OutOfRange, WrongLength}
+use Rattle.network.specs.Verdict.{Verdict, acceptance}
 use Rattle.network.specs.Areas.{other, holds}
 use Rattle.network.specs.Numbers.{area_number, answer_of}
 use Rattle.network.specs.Ran.{answered_from, NamesFrom, left_by, starts_from, ran_from, Ran}
@@ -39,17 +40,17 @@ record Told (n : ℕ) (from : Area) (ending : Ending (List ℕ)) : Type 0 where
 
 rounds-told : (n : ℕ) (from : Area) {most : ℕ} {ending : Ending (List ℕ)} → RoundsEnd most ending → Told n from ending
 rounds-told n from (at_network network count) =
-    record { verdict = Accepted n count (holds (other from) count); answer = refl; names = (refl, refl) }
+    record { verdict = acceptance n count (holds (other from) count); answer = refl; names = (refl, refl) }
 rounds-told n from (at_triple i k j count) =
-    record { verdict = Refused (Triple (place i) (place k) (place j)) count; answer = refl; names = tt }
-rounds-told n from {most} at_last = record { verdict = Unfinished most (holds from most); answer = refl; names = tt }
+    record { verdict = Err (Refused (Triple (place i) (place k) (place j)) count); answer = refl; names = tt }
+rounds-told n from {most} at_last = record { verdict = Err (Unfinished most (holds from most)); answer = refl; names = tt }
 
 ran-told : (n : ℕ) (from : Area) (most : ℕ) (first second : List ℕ) → Told n from (ran_from n from most first second)
 ran-told n from most first second =
     by_ran (Told n from) n most (starts_from n from first second) (length first) (length second)
-    (record { verdict = OutOfRange; answer = refl; names = tt })
-    (record { verdict = WrongLength; answer = refl; names = tt })
-    (record { verdict = Unprepared; answer = refl; names = tt })
+    (record { verdict = Err OutOfRange; answer = refl; names = tt })
+    (record { verdict = Err WrongLength; answer = refl; names = tt })
+    (record { verdict = Err Unprepared; answer = refl; names = tt })
     (λ r. rounds-told n from (rounds_ended most n (starts_from n from first second)))
 
 -- ---- a call by its area
@@ -103,23 +104,23 @@ runs_as {n} {area} {most} {first} {second} {answer} {first'} {second'} {answer'}
 record UsedUp (verdict : Verdict) : Type 0 where
   rounds : ℕ
   area : Area
-  is : verdict ≡ Unfinished rounds area
+  is : verdict ≡ Err (Unfinished rounds area)
 
 used_up_lem : (verdict : Verdict) → (answer_of verdict).number ≡ 24 → UsedUp verdict
-used_up_lem (Accepted regions r a) e = absurd (omega (arith, e))
-used_up_lem (Refused (Region i) r) e = absurd (omega (arith, e))
-used_up_lem (Refused (Pair i j) r) e = absurd (omega (arith, e))
-used_up_lem (Refused (Triple i k j) r) e = absurd (omega (arith, e))
-used_up_lem (Unfinished r a) e = record { rounds = r; area = a; is = refl }
-used_up_lem Unprepared e = absurd (omega (arith, e))
-used_up_lem OutOfRange e = absurd (omega (arith, e))
-used_up_lem WrongLength e = absurd (omega (arith, e))
+used_up_lem (Ok outcome) e = absurd (omega (arith, e))
+used_up_lem (Err (Refused (Region i) r)) e = absurd (omega (arith, e))
+used_up_lem (Err (Refused (Pair i j) r)) e = absurd (omega (arith, e))
+used_up_lem (Err (Refused (Triple i k j) r)) e = absurd (omega (arith, e))
+used_up_lem (Err (Unfinished r a)) e = record { rounds = r; area = a; is = refl }
+used_up_lem (Err Unprepared) e = absurd (omega (arith, e))
+used_up_lem (Err OutOfRange) e = absurd (omega (arith, e))
+used_up_lem (Err WrongLength) e = absurd (omega (arith, e))
 
 -- the run that was used up, and where its answer says that the network is
 pub record Unfinishes (n : ℕ) (from : Area) (most : ℕ) (first second first' second' answer' : List ℕ) : Type 0 where
   pub rounds : ℕ
   pub area : Area
-  pub ran : Ran n from most first second first' second' (Unfinished rounds area)
+  pub ran : Ran n from most first second first' second' (Err (Unfinished rounds area))
   pub named : number_at answer' 4 ≡ area_number area
   pub counted : number_at answer' 16 ≡ rounds
 

@@ -10,6 +10,7 @@ use borrow.Fn.Kinds.{Dens, res_t, ended_of}
 use contract.Lifetimes.{Lfts}
 use denote.Triple.Clauses.{AtExit}
 use lib.ListN.{length}
+use Rattle.std.proofs.Common.{Ok, Err}
 use Rattle.lists.specs.BigEndian.{number_at}
 use Rattle.answer.specs.Answer.{Answer, answer}
 use Rattle.answer.specs.Ending.{Ending, accepted, refused, answered}
@@ -19,10 +20,9 @@ use Rattle.refinement.specs.Refine.{most_rounds, refined}
 use Rattle.refinement.specs.Run.{total, EachSome, readied}
 use Rattle.refinement.proofs.Readied.{readied-accepts, readied-ending, readied-refuses}
 use Rattle.network.specs.declared.Area.TheVariants.{First}
-use Rattle.network.specs.declared.Contradiction.TheVariants.{Region, Pair, Triple}
-use Rattle.network.specs.declared.Start.TheVariants.{Ready}
-use Rattle.network.specs.declared.Verdict.{Verdict}
-use Rattle.network.specs.declared.Verdict.TheVariants.{Accepted, Refused, Unfinished, Unprepared, OutOfRange, WrongLength}
+use Rattle.refinement.specs.declared.Contradiction.TheVariants.{Region, Pair, Triple}
+use Rattle.network.specs.declared.Unrefined.TheVariants.{Refused, Unfinished, Unprepared, OutOfRange, WrongLength}
+use Rattle.network.specs.Verdict.{Verdict}
 use Rattle.network.specs.Numbers.{answer_of}
 use Rattle.network.specs.Refined.{leaves, Refined}
 use Rattle.network.specs.Prepared.{leaves_second, Prepared}
@@ -51,14 +51,14 @@ use Rattle.chachaqom.proofs.refine.chachaqom_refine.Reads.{Post as Refines}
 -- ---- runs that go on
 
 made_numbers : (verdict : Verdict) (number : ℕ) → number ≡ (answer_of verdict).number → Made verdict → RoundsMade number
-made_numbers (Accepted regions r a) number e m = omega (arith, e)
-made_numbers (Refused (Region i) r) number e m = omega (arith, e)
-made_numbers (Refused (Pair i j) r) number e m = omega (arith, e)
-made_numbers (Refused (Triple i k j) r) number e m = omega (arith, e)
-made_numbers (Unfinished r a) number e m = omega (arith, e)
-made_numbers Unprepared number e m = absurd (m.prepared refl)
-made_numbers OutOfRange number e m = absurd (m.in_range refl)
-made_numbers WrongLength number e m = absurd (m.long_enough refl)
+made_numbers (Ok outcome) number e m = omega (arith, e)
+made_numbers (Err (Refused (Region i) r)) number e m = omega (arith, e)
+made_numbers (Err (Refused (Pair i j) r)) number e m = omega (arith, e)
+made_numbers (Err (Refused (Triple i k j) r)) number e m = omega (arith, e)
+made_numbers (Err (Unfinished r a)) number e m = omega (arith, e)
+made_numbers (Err Unprepared) number e m = absurd (m.prepared refl)
+made_numbers (Err OutOfRange) number e m = absurd (m.in_range refl)
+made_numbers (Err WrongLength) number e m = absurd (m.long_enough refl)
 
 -- a call with the area that a 24 named, and the areas as it left them
 pub export_goes_on : {n area most others number : ℕ} {first second answer first₁ second₁ answer₁ other first' second' answer' : List ℕ}
@@ -78,14 +78,14 @@ recount count a = answer a.number a.first a.second a.third count
 -- rounds that were made tell any count
 counted-answer : (count : ℕ) (verdict : Verdict) → Made (counting count verdict)
     → answer_of (counting count verdict) ≡ recount count (answer_of verdict)
-counted-answer count (Accepted regions r a) m = refl
-counted-answer count (Refused (Region i) r) m = refl
-counted-answer count (Refused (Pair i j) r) m = refl
-counted-answer count (Refused (Triple i k j) r) m = refl
-counted-answer count (Unfinished r a) m = refl
-counted-answer count Unprepared m = absurd (m.prepared refl)
-counted-answer count OutOfRange m = absurd (m.in_range refl)
-counted-answer count WrongLength m = absurd (m.long_enough refl)
+counted-answer count (Ok outcome) m = refl
+counted-answer count (Err (Refused (Region i) r)) m = refl
+counted-answer count (Err (Refused (Pair i j) r)) m = refl
+counted-answer count (Err (Refused (Triple i k j) r)) m = refl
+counted-answer count (Err (Unfinished r a)) m = refl
+counted-answer count (Err Unprepared) m = absurd (m.prepared refl)
+counted-answer count (Err OutOfRange) m = absurd (m.in_range refl)
+counted-answer count (Err WrongLength) m = absurd (m.long_enough refl)
 
 -- ---- a preparation that is refused
 
@@ -113,7 +113,7 @@ refused_preparation {n} {cells} {first} {second} {answer} call fit h =
 
 module _ {n : ℕ} {cells first second answer first₁ second₁ answer₁ : List ℕ}
     (call : PrepareExport n cells first second answer first₁ second₁ answer₁ 0) (fit : length answer ≡ 20) where
-  ready : Prepared n cells first second first₁ second₁ Ready
+  ready : Prepared n cells first second first₁ second₁ (Ok tt)
   ready =
       let zero_number : (answered (readied n cells (length first) (length second))).number ≡ 0 =
       sym (call.answers.returned ∙ rw (eq-eqb (length answer) 20 fit)) in

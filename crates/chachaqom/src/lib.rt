@@ -2,6 +2,7 @@
 // each call.
 #![tactic(auto)]
 
+mod crossing;
 pub mod prepare;
 pub mod read;
 pub mod refine;

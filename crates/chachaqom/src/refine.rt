@@ -14,6 +14,7 @@ pub extern "C" fn chachaqom_refine(
 ) -> u32
     ensures { RefineExport n cells.now first.old second.old answer.old first.new second.new answer.new result }
 {
+    // A number where Rattle has a Result, and lengths that are tested: the C interface.
     if answer.len() != 20 {
         return 2;
     }

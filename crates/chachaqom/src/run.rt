@@ -1,29 +1,8 @@
 // Rounds a few at a time for a host in C: an area crosses as its number.
-ghost use Rattle.std.specs.Prelude.{◌≡◌};
-ghost use Rattle.chachaqom.specs.RunExport.{is_area, area_of, RunExport};
+ghost use Rattle.chachaqom.specs.RunExport.{RunExport};
 
 use network::numbers::of_verdict;
-use network::{Area, Verdict};
-
-// Whether a number is that of an area.
-fn is_area(number: usize) -> bool
-    ensures { result ≡ is_area number }
-{
-    if number == 1 {
-        return true;
-    }
-    number == 2
-}
-
-// The area with a number, where it is one.
-fn area_of(number: usize) -> Area
-    ensures { result ≡ area_of number }
-{
-    if number == 2 {
-        return Area::Second;
-    }
-    Area::First
-}
+use network::{Area, Unrefined};
 
 // Up to so many rounds, the confirming one included, from the network of n regions in the area named, and answers in 20 bytes.
 #[unsafe(no_mangle)]
@@ -37,12 +16,13 @@ pub extern "C" fn chachaqom_run(
 ) -> u32
     ensures { RunExport n area rounds first.old second.old answer.old first.new second.new answer.new result }
 {
+    // A number where Rattle has a Result, and lengths that are tested: the C interface.
     if answer.len() != 20 {
         return 2;
     }
-    if !is_area(area) {
-        return answer::put_answer(answer, of_verdict(Verdict::OutOfRange));
-    }
-    let verdict = network::run(n, area_of(area), rounds, first, second);
+    let Ok(from) = Area::try_from(area) else {
+        return answer::put_answer(answer, of_verdict(Err(Unrefined::OutOfRange)));
+    };
+    let verdict = network::run(n, from, rounds, first, second);
     answer::put_answer(answer, of_verdict(verdict))
 }

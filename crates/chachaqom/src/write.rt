@@ -1,37 +1,36 @@
 // Writing a scene for a host in C: the identifiers come as bytes.
-ghost use Rattle.std.specs.Prelude.{◌≡◌, ◌≤◌, take};
+ghost use Rattle.std.specs.Prelude.{◌≡◌};
 ghost use Rattle.lists.specs.BigEndian.{numbers_in};
 ghost use Rattle.writer.specs.Writes.{Writes};
 ghost use Rattle.chachaqom.specs.WriteExport.{identifiers_lent, WriteExport};
 
-use writer::Writing;
+use std::array;
+use writer::Unwritten;
 use writer::numbers::of_writing;
 
-// The first n identifiers that bytes hold, four bytes each.
-fn identifiers_in(bytes: &[u8], n: usize) -> [u32; 64]
-    requires { n ≤ 64 }
-    ensures { take n result ≡ numbers_in n bytes.now }
+// The 64 identifiers that bytes hold, four bytes each; past the last byte they are 0.
+fn identifiers_in(bytes: &[u8]) -> [u32; 64]
+    ensures { result ≡ numbers_in 64 bytes.now }
 {
-    let mut identifiers = [0u32; 64];
-    let mut place: usize = 0;
-    while place < n {
-        identifiers[place] = lists::number_at(bytes, 4 * place);
-        place += 1;
-    }
-    identifiers
+    array::from_fn(|place| lists::number_at(bytes, 4 * place))
 }
 
 // Writes the scene of n regions whose identifiers are lent as 4 n bytes.
-fn write_lent(n: usize, identifiers: &[u8], cells: &[u8], buffer: &mut [u8]) -> Writing
+fn write_lent(
+    n: usize,
+    identifiers: &[u8],
+    cells: &[u8],
+    buffer: &mut [u8],
+) -> Result<usize, Unwritten>
     ensures { Writes n (identifiers_lent n identifiers.now) cells.now buffer.old buffer.new result }
 {
     if !matrix::in_range(n) {
-        return Writing::OutOfRange;
+        return Err(Unwritten::OutOfRange);
     }
     if identifiers.len() != 4 * n {
-        return Writing::WrongLength;
+        return Err(Unwritten::WrongLength);
     }
-    let numbers = identifiers_in(identifiers, n);
+    let numbers = identifiers_in(identifiers);
     writer::write(n, &numbers[..n], cells, buffer)
 }
 
@@ -46,6 +45,7 @@ pub extern "C" fn chachaqom_write(
 ) -> u32
     ensures { WriteExport n identifiers.now cells.now buffer.old answer.old buffer.new answer.new result }
 {
+    // A number where Rattle has a Result, and lengths that are tested: the C interface.
     if answer.len() != 20 {
         return 2;
     }

@@ -3,15 +3,16 @@
 use native.Mathlib.Omega.{arith}
 use Rattle.chachaqom.proofs.Promised.{read_no_identifiers, read_no_marks, read_answered}
 use Rattle.chachaqom.proofs.read.chachaqom_read.Goals as goal
+use Rattle.chachaqom.proofs.read.chachaqom_read.Goals.{then-identifiers-ne256-via-then-identifiers-ne256, then-identifiers-ne256-via-else-identifiers-ne256+then-marks-ne8192}
 
 pub returns-then-identifiers-ne256 : goal.returns-then-identifiers-ne256
 returns-then-identifiers-ne256 c =
-    read_no_identifiers c.if-answer-ne20.false (λ e. omega arith) c.of_reading.ensures c.put_answer.ensures
-
-pub returns-then-marks-ne8192 : goal.returns-then-marks-ne8192
-returns-then-marks-ne8192 c =
-    read_no_marks c.if-answer-ne20.false (λ e. omega arith) c.of_reading-then-marks-ne8192.ensures
-    c.put_answer-then-marks-ne8192.ensures
+    elim c.then-identifiers-ne256.branch [
+      | then-identifiers-ne256-via-then-identifiers-ne256 w ↦
+          read_no_identifiers c.if-answer-ne20.false (λ e. omega arith) c.of_reading.ensures c.put_answer.ensures
+      | then-identifiers-ne256-via-else-identifiers-ne256+then-marks-ne8192 w ↦
+          read_no_marks c.if-answer-ne20.false (λ e. omega arith) c.of_reading.ensures c.put_answer.ensures
+    ]
 
 pub returns : goal.returns
 returns c =

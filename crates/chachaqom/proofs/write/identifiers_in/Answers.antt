@@ -1,20 +1,9 @@
 -- `chachaqom::write::identifiers_in` meets its contract: each entry is that of its four bytes.
-use mathlib.Core.Path.{refl}
-use native.Mathlib.Omega.{arith}
-use lib.ListN.{length-set}
-use Rattle.lists.specs.BigEndian.{numbers_in}
-use Rattle.chachaqom.proofs.Crossed.{one_held}
+use mathlib.Core.Path.{sym, ◌∙◌}
+use Rattle.std.proofs.Common.{rules}
+use Rattle.lanes.proofs.Made.{from_fn_list}
+use Rattle.chachaqom.proofs.Crossed.{numbers_listed}
 use Rattle.chachaqom.proofs.write.identifiers_in.Goals as goal
 
-pub loop-place-init : goal.loop-place-init
-unfolding numbers_in
-loop-place-init c = (omega arith, refl, refl)
-
-pub loop-place-preserved : goal.loop-place-preserved
-loop-place-preserved c =
-    let loop = c.loop-place in (
-      omega arith,
-      simp length-set loop.invariant.1,
-      one_held c.args.bytes.now loop.identifiers loop.place _ (omega arith) loop.invariant.2
-          c.number_at.ensures,
-    )
+pub returns : goal.returns
+returns c = from_fn_list c.from_fn.ensures.items (λ i y q h k. search rules) ∙ sym (numbers_listed 64 c.args.bytes.now)
