@@ -5,6 +5,8 @@ use Prim.Native.Nat.{ℕ, ◌+◌, ◌*◌, ◌≤◌, ◌<◌}
 use native.Mathlib.Omega.{arith}
 use borrow.Author.Tests.{lt-ltb, le-ltb}
 use Rattle.std.specs.Prelude.{Ok, Err}
+use Rattle.answer.specs.Answer.{answer}
+use Rattle.answer.specs.Ending.{refused}
 use Rattle.lists.proofs.Splits.{split_lt}
 use Rattle.region.specs.Lookup.{place}
 use Rattle.region.specs.declared.Place.{Place}
@@ -115,6 +117,13 @@ unfolding refine
 refine_by n m e = rw (← e)
 
 module _ (n : ℕ) (m : List ℕ) where
+  pub refine_region : (i : ℕ) → i ≡ empty_region n (node n m) → i < n → refine n m ≡ refused (answer 21 i 0 0 0)
+  refine_region i e h = refine_by n m (sym (preparation_region n m i e h))
+
+  pub refine_pair : n ≤ empty_region n (node n m) → (p : ℕ) → p ≡ first_empty (n * n) (prepared n m) → p < n * n
+      → refine n m ≡ refused (answer 22 (row n p) (column n p) 0 0)
+  refine_pair l p e h = refine_by n m (sym (preparation_pair n m l p e h))
+
   pub refine-rounds : n ≤ empty_region n (node n m) → n * n ≤ first_empty (n * n) (prepared n m)
       → refine n m ≡ all_rounds n (prepared n m)
   refine-rounds l h = refine_by n m (sym (preparation_ready n m l h))

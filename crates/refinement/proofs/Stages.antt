@@ -35,6 +35,9 @@ below_refl n a = record { cells = λ i j hi hj. within_refl (cell n a i j) }
 pub below_trans : (n : ℕ) {a b c : List ℕ} → Below n a b → Below n b c → Below n a c
 below_trans n p q = record { cells = λ i j hi hj. within_trans (p.cells i j hi hj) (q.cells i j hi hj) }
 
+pub below-bytes : (n : ℕ) {a b : List ℕ} → Below n a b → Bytes n b → Bytes n a
+below-bytes n p B = record { byte = λ i j hi hj. within-byte (p.cells i j hi hj) (B.byte i j hi hj) }
+
 -- an empty cell shuts out everything within the matrix that has none
 pub empty_shuts : (n : ℕ) (m : List ℕ) (i j : ℕ) → i < n → j < n → cell n m i j ≡ empty
     → (w : List ℕ) → Below n w m → Filled n w → ⊥

@@ -12,7 +12,7 @@ pub enum Contradiction {
     Triple(Place, Place, Place),
 }
 
-// What a round comes to: a cell ran empty, with the three regions named; nothing changed; something did.
+// What a round comes to: a cell ran empty, with the three regions named; nothing changed; something did. Three ways to go on, so no Result.
 #[derive(Clone, Copy, PartialEq, Eq, Debug)]
 pub enum Step {
     Empty(Place, Place, Place),

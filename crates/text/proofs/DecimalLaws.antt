@@ -1,8 +1,8 @@
--- The digits of a number: from the last one on, how many there are, and that they are what the library prints.
+-- The digits of a number: from the last one on, how many there are, that they say the number, and that the library prints them.
 use mathlib.Core.Path.{◌≡◌, sym, ap, ◌∙◌, subst}
 use mathlib.Core.List.{List, [], ◌∷◌, ◌++◌}
-use Prim.Native.Nat.{ℕ, zero, suc, ◌+◌, ◌/◌, ◌%◌, ◌^◌, ◌≤◌, ◌<◌}
-use native.Mathlib.Nat.{pow-suc, div-lt_iff_lt-mul, mod-eq_of_lt}
+use Prim.Native.Nat.{ℕ, zero, suc, ◌+◌, ◌-◌, ◌*◌, ◌/◌, ◌%◌, ◌^◌, ◌≤◌, ◌<◌}
+use native.Mathlib.Nat.{pow-suc, div-lt_iff_lt-mul, mod-eq_of_lt, div-add-mod'}
 use native.Mathlib.Omega.{arith}
 use borrow.Author.Tests.{lt-ltb, le-ltb}
 use lib.ListN.{length, length-append}
@@ -46,6 +46,26 @@ decimal-most (suc more) x =
     split_lt x 10 (λ l. rw (decimal_one (suc more) x l) (omega arith))
     (λ l. rw (decimal_more more x l)
     (omega (arith, length-append (decimal_up_to more (x / 10)) (digit (x % 10) ∷ []), decimal-most more (x / 10))))
+
+-- ---- that they say the number
+
+-- the number that digits say, behind digits that said `before`
+unfoldable pub said : ℕ → List ℕ → ℕ
+said before [] = before
+said before (d ∷ ds) = said (before * 10 + (d - 48)) ds
+
+said_last : (before : ℕ) (ds : List ℕ) (d : ℕ) → said before (ds ++ (digit d ∷ [])) ≡ said before ds * 10 + d
+unfolding said
+said_last before [] d = omega arith
+said_last before (e ∷ ds) d = said_last (before * 10 + (e - 48)) ds d
+
+pub decimal_says : (more x : ℕ) → x < 10 ^ suc more → said 0 (decimal_up_to more x) ≡ x
+unfolding said
+decimal_says zero x h = rw (decimal_one zero x h) (omega arith)
+decimal_says (suc more) x h =
+    split_lt x 10 (λ l. rw (decimal_one (suc more) x l) (omega arith))
+    (λ l. rw (decimal_more more x l, said_last 0 (decimal_up_to more (x / 10)) (x % 10), decimal_says more (x / 10) (tenth (suc more) x h))
+    (div-add-mod' x 10))
 
 -- ---- what they are
 
