@@ -42,6 +42,7 @@ impl Crossing for u16 {
 }
 
 // Puts numbers one behind the other into as many bytes as they have.
+// By offset: of `chunks_exact_mut` a proof knows no element afterwards, and `as_flattened` takes 8 KB of stack more than the header states.
 pub(crate) fn put_each<N: Crossing>(bytes: &mut [u8], numbers: &[N])
     requires { length bytes.old ≡ N.width * length numbers.now }
     ensures { bytes.new ≡ flat_map N.bytes_of numbers.now }

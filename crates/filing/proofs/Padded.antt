@@ -11,6 +11,9 @@ get_or-same entry zero k = refl
 get_or-same entry (suc count) zero = refl
 get_or-same entry (suc count) (suc k) = get_or-same entry count k
 
+get_or-zeros : (count k : ℕ) → get_or (replicate {A = ℕ} count 0) k 0 ≡ 0
+get_or-zeros = get_or-same 0
+
 module _ {A : Type 0} (entry : A) (size : ℕ) (l : List A) where
   pub length-padded_with : length l ≤ size → length (padded_with entry size l) ≡ size
   length-padded_with h = simp (length-append, length-replicate) (omega arith)

@@ -8,6 +8,7 @@ pub mod InPlanes
 pub mod Left
 -- the lent areas and the part handed back
 pub mod Fronts
+pub mod Handing
 -- the verdict's numbers, and no second answer
 pub mod Verdicts
 pub mod Unique

@@ -3,14 +3,15 @@ use mathlib.Core.Path.{◌≡◌, refl, sym, ap, ◌∙◌}
 use mathlib.Core.Bool.{Bool, cond}
 use mathlib.Core.List.{List}
 use Prim.Native.Nat.{ℕ, ◌*◌, ◌≤◌, ◌<◌}
-use borrow.Author.Tests.{lt-ltb, le-ltb}
+use borrow.Author.Tests.{lt-ltb, le-ltb, eq-eqb, ne_eqb}
 use lib.Dec.{eqb, ltb}
 use lib.ListN.{length, get_or}
 use Rattle.std.specs.Prelude.{Ok, Err, Some, None, position}
 use Rattle.answer.specs.Ending.{accepted}
 use Rattle.lists.proofs.LaidLaws.{laid_all}
 use Rattle.region.specs.Lookup.{place}
-use Rattle.relation.specs.Sets.{intersect}
+use Rattle.relation.specs.Relations.{equal}
+use Rattle.relation.specs.Sets.{only, intersect}
 use Rattle.relation.specs.Converse.{converse}
 use Rattle.matrix.specs.Square.{Square}
 use Rattle.matrix.specs.Cells.{cell, row, column}
@@ -30,6 +31,13 @@ use Rattle.network.proofs.Searches.{empty_in, none_in}
 use Rattle.network.proofs.Endings.{zeros_laid}
 
 -- ---- the cells by the two rules
+
+pub node_on_diagonal : (n : ℕ) (m : List ℕ) (i j stated r : ℕ) → i ≡ j → stated ≡ cell n m i j → r ≡ intersect stated (only equal)
+    → r ≡ node_cell n m i j
+node_on_diagonal n m i j stated r e f g = rw (eq-eqb i j e) (g ∙ ap (λ (x : ℕ). intersect x (only equal)) f)
+
+pub node_off_diagonal : (n : ℕ) (m : List ℕ) (i j stated : ℕ) → (i ≡ j → ⊥) → stated ≡ cell n m i j → stated ≡ node_cell n m i j
+node_off_diagonal n m i j stated d f = rw (ne_eqb i j d) f
 
 pub arc_of_nodes : (n : ℕ) (m : List ℕ) (i j own opposite turned r : ℕ) → i < n → j < n → own ≡ node_cell n m i j → opposite ≡ node_cell n m j i
     → turned ≡ converse opposite → r ≡ intersect own turned → r ≡ arc_cell n (node n m) i j

@@ -19,7 +19,7 @@ fn along(entries: &Compositions, old: &Matrix, i: usize, k: usize, j: usize) -> 
     old.at(i, k).compose_by(entries, onward)
 }
 
-// The least k at which (i, j), intersected with the compositions through 0..k, has run empty.
+// The least k at which (i, j), intersected with the compositions through 0..k, has run empty. A `find` would have to write its running set.
 fn ran_out_by(entries: &Compositions, old: &Matrix, i: usize, j: usize) -> Option<usize>
     requires { (i < old.now.n) × (j < old.now.n) × (entries.now ≡ listed) }
     ensures { result ≡ found_below old.now.n (ran_out old.now.n old.now.cells.now i j) }

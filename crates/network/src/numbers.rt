@@ -6,7 +6,7 @@ ghost use Rattle.network.specs.Numbers.{area_number, area_numbered, answer_of, a
 use crate::{Accepted, Area, Contradiction, Unrefined};
 use answer::{Numbers, tell};
 
-// The numbers of a contradiction that a refinement ran into after so many rounds.
+// The numbers of a contradiction that a refinement ran into after so many rounds: of two values, which no From takes.
 fn of_contradiction(contradiction: Contradiction, rounds: usize) -> Numbers
     ensures { told result ≡ answer_of (Err (Unrefined.Refused contradiction rounds)) }
 {
@@ -44,7 +44,7 @@ impl TryFrom<usize> for Area {
     }
 }
 
-// The numbers of a call that leaves no refined network.
+// The numbers of a call that leaves no refined network. A From would be public, a second way to what `of_verdict` gives.
 fn of_unrefined(unrefined: Unrefined) -> Numbers
     ensures { told result ≡ answer_of (Err unrefined) }
 {
@@ -57,6 +57,7 @@ fn of_unrefined(unrefined: Unrefined) -> Numbers
     }
 }
 
+// A function and no From, as `of_start`: docs/PROOFS.md has their contracts by these names.
 pub fn of_verdict(verdict: Result<Accepted, Unrefined>) -> Numbers
     ensures { told result ≡ answer_of verdict }
 {

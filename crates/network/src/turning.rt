@@ -5,8 +5,8 @@ ghost use Rattle.network.specs.Inner.{Room, Startable, Ends};
 use planes::take;
 use round::{Emptied, round};
 
-// What some rounds came to, and how many of them changed something.
-#[derive(Clone, Copy, PartialEq, Eq, Debug)]
+// What some rounds came to, and how many of them changed something: three ways to end, so no Result.
+#[derive(Clone, Copy)]
 pub(crate) enum Ended {
     // The round of this number left a set empty, first in row order here.
     Empty {

@@ -7,6 +7,7 @@ use crate::Unread;
 use crate::format::MOST_BYTES;
 use answer::{Numbers, tell};
 
+// A function and no From: docs/PROOFS.md has its contract by this name.
 pub fn of_reading(reading: Result<usize, Unread>) -> Numbers
     ensures { told result ≡ answer_of reading }
 {
