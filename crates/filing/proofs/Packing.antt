@@ -33,45 +33,45 @@ among-rows n at h l = record { row-few = le_trans (row_lt n at l) h; column-few 
 source_le : (n at : ℕ) → n ≤ most_regions → at ≤ row n at * most_regions + column n at
 source_le n at h = omega (arith, place-back n at, mul-le-mul_left (row n at) h)
 
-module _ {A : Type 0} (nothing : A) (n : ℕ) (entries : List A) where
-  length-in_rows : length (in_rows nothing n entries) ≡ n * n
-  length-in_rows = length-map-range_with_len (λ p. get_or entries (row n p * most_regions + column n p) nothing) 0 (n * n)
+module _ {A : Type 0} (padding : A) (n : ℕ) (entries : List A) where
+  length-in_rows : length (in_rows padding n entries) ≡ n * n
+  length-in_rows = length-map-range_with_len (λ p. get_or entries (row n p * most_regions + column n p) padding) 0 (n * n)
 
-  in_rows_at : (at : ℕ) → at < n * n → get_or (in_rows nothing n entries) at nothing ≡ get_or entries (row n at * most_regions + column n at) nothing
+  in_rows_at : (at : ℕ) → at < n * n → get_or (in_rows padding n entries) at padding ≡ get_or entries (row n at * most_regions + column n at) padding
   in_rows_at at h =
-      get_or-map-range_with_len (λ p. get_or entries (row n p * most_regions + column n p) nothing) 0 (n * n) at at nothing h (omega arith)
+      get_or-map-range_with_len (λ p. get_or entries (row n p * most_regions + column n p) padding) 0 (n * n) at at padding h (omega arith)
 
-module _ {A : Type 0} (nothing : A) (n : ℕ) (entries : List A) (rows : Rows entries n) where
+module _ {A : Type 0} (padding : A) (n : ℕ) (entries : List A) (rows : Rows entries n) where
   -- rows of 64 become rows of n
-  packed-rows : packed nothing n entries ≡ padded_with nothing (length entries) (in_rows nothing n entries)
+  packed-rows : packed padding n entries ≡ padded_with padding (length entries) (in_rows padding n entries)
   unfolding packed
   packed-rows = rw (eq-eqb (length entries) lent_cells rows.long, le-leb n most_regions rows.few) refl
 
-  pub length-packed : length (packed nothing n entries) ≡ length entries
+  pub length-packed : length (packed padding n entries) ≡ length entries
   length-packed =
       rw packed-rows
-      (length-padded_with nothing (length entries) (in_rows nothing n entries)
-      (omega (arith, length-in_rows nothing n entries, few-cells n rows.few, rows.long)))
+      (length-padded_with padding (length entries) (in_rows padding n entries)
+      (omega (arith, length-in_rows padding n entries, few-cells n rows.few, rows.long)))
 
   pub packed_in : (at : ℕ) → at < n * n
-      → get_or (packed nothing n entries) at nothing ≡ get_or entries (row n at * most_regions + column n at) nothing
+      → get_or (packed padding n entries) at padding ≡ get_or entries (row n at * most_regions + column n at) padding
   packed_in at h =
       rw packed-rows
-      (padded_with_in nothing (length entries) (in_rows nothing n entries) at (omega (arith, length-in_rows nothing n entries))
-      ∙ in_rows_at nothing n entries at h)
+      (padded_with_in padding (length entries) (in_rows padding n entries) at (omega (arith, length-in_rows padding n entries))
+      ∙ in_rows_at padding n entries at h)
 
   -- so an entry that was read there belongs there
   pub packed_read : (at : ℕ) (x : A) → at < n * n → x ≡ get_or entries (row n at * most_regions + column n at) x
-      → x ≡ get_or (packed nothing n entries) at nothing
+      → x ≡ get_or (packed padding n entries) at padding
   packed_read at x h e =
       let among = among-rows n at rows.few h in
       let there : row n at * most_regions + column n at < length entries = omega (arith, among.row-few, among.column-few, rows.long) in
-      e ∙ get_or_default entries (row n at * most_regions + column n at) x nothing there ∙ sym (packed_in at h)
+      e ∙ get_or_default entries (row n at * most_regions + column n at) x padding there ∙ sym (packed_in at h)
 
-  pub packed_past : (at : ℕ) → n * n ≤ at → get_or (packed nothing n entries) at nothing ≡ nothing
+  pub packed_past : (at : ℕ) → n * n ≤ at → get_or (packed padding n entries) at padding ≡ padding
   packed_past at h =
       rw packed-rows
-      (padded_with_past nothing (length entries) (in_rows nothing n entries) at (omega (arith, length-in_rows nothing n entries)))
+      (padded_with_past padding (length entries) (in_rows padding n entries) at (omega (arith, length-in_rows padding n entries)))
 
 -- so the cells of 64 regions become those of n
 pub packed-grid : (n : ℕ) (cells : List ℕ) → Rows cells n → (f : ℕ → ℕ → ℕ) → cells ≡ grid most_regions f
@@ -87,39 +87,39 @@ packed-grid n cells rows f e =
     rw (packed-rows 0 n cells rows, rows.long, e, same) refl
 
 -- a loop that packs entries from the front: those before the place are packed, the others are as they were
-pub record Packed {A : Type 0} (nothing : A) (n : ℕ) (before entries : List A) (at : ℕ) : Type 0 where
+pub record Packed {A : Type 0} (padding : A) (n : ℕ) (before entries : List A) (at : ℕ) : Type 0 where
   pub long : length entries ≡ length before
-  pub so_far : (k : ℕ) → k < at → get_or entries k nothing ≡ get_or (packed nothing n before) k nothing
-  pub left : (k : ℕ) → at ≤ k → get_or entries k nothing ≡ get_or before k nothing
+  pub so_far : (k : ℕ) → k < at → get_or entries k padding ≡ get_or (packed padding n before) k padding
+  pub left : (k : ℕ) → at ≤ k → get_or entries k padding ≡ get_or before k padding
 
 -- it reads none that it has written
-module _ {A : Type 0} (nothing : A) (n : ℕ) (before entries : List A) (at : ℕ) (rows : Rows before n)
-    (w : Packed nothing n before entries at) where
+module _ {A : Type 0} (padding : A) (n : ℕ) (before entries : List A) (at : ℕ) (rows : Rows before n)
+    (w : Packed padding n before entries at) where
   pub packing_rows : Rows entries n
   packing_rows = record { long = w.long ∙ rows.long; few = rows.few }
 
-  not_written : get_or (packed nothing n entries) at nothing ≡ get_or (packed nothing n before) at nothing
+  not_written : get_or (packed padding n entries) at padding ≡ get_or (packed padding n before) at padding
   not_written =
       split_lt at (n * n)
       (λ l.
-      packed_in nothing n entries packing_rows at l
+      packed_in padding n entries packing_rows at l
       ∙ w.left (row n at * most_regions + column n at) (source_le n at rows.few)
-      ∙ sym (packed_in nothing n before rows at l))
-      (λ l. packed_past nothing n entries packing_rows at l ∙ sym (packed_past nothing n before rows at l))
+      ∙ sym (packed_in padding n before rows at l))
+      (λ l. packed_past padding n entries packing_rows at l ∙ sym (packed_past padding n before rows at l))
 
-  pub packing_more : (x : A) → at < length entries → x ≡ get_or (packed nothing n entries) at nothing
-      → Packed nothing n before (set entries at x) (at + 1)
+  pub packing_more : (x : A) → at < length entries → x ≡ get_or (packed padding n entries) at padding
+      → Packed padding n before (set entries at x) (at + 1)
   packing_more x h e =
       record {
         long = length-set entries at x ∙ w.long;
         so_far = λ k l.
             split_eq k at
-            (λ s. rw s (get_or-set_same entries at x nothing h ∙ e ∙ not_written))
-            (λ d. get_or-set_other entries at k x nothing d ∙ w.so_far k (omega arith));
-        left = λ k l. get_or-set_other entries at k x nothing (omega arith) ∙ w.left k (omega arith);
+            (λ s. rw s (get_or-set_same entries at x padding h ∙ e ∙ not_written))
+            (λ d. get_or-set_other entries at k x padding d ∙ w.so_far k (omega arith));
+        left = λ k l. get_or-set_other entries at k x padding (omega arith) ∙ w.left k (omega arith);
       }
 
-  pub packing_ends : length entries ≤ at → entries ≡ packed nothing n before
+  pub packing_ends : length entries ≤ at → entries ≡ packed padding n before
   packing_ends h =
-      ext_get_or nothing entries (packed nothing n before) (w.long ∙ sym (length-packed nothing n before rows))
+      ext_get_or padding entries (packed padding n before) (w.long ∙ sym (length-packed padding n before rows))
       (λ k l. w.so_far k (omega arith))

@@ -84,8 +84,8 @@ has_rows n entries = eqb (length entries) lent_cells && leb n most_regions
 
 -- the entries of n regions, in rows of n, out of rows of 64
 abbrev pub in_rows : {A : Type 0} → A → ℕ → List A → List A
-in_rows nothing n entries = map (λ p. get_or entries (row n p * most_regions + column n p) nothing) (range_with_len 0 (n * n))
+in_rows padding n entries = map (λ p. get_or entries (row n p * most_regions + column n p) padding) (range_with_len 0 (n * n))
 
--- rows of 64 entries as rows of n, and nothing behind them; other entries as they were
+-- rows of 64 entries as rows of n, and padding behind them; other entries as they were
 unfoldable pub packed : {A : Type 0} → A → ℕ → List A → List A
-packed nothing n entries = cond (has_rows n entries) (padded_with nothing (length entries) (in_rows nothing n entries)) entries
+packed padding n entries = cond (has_rows n entries) (padded_with padding (length entries) (in_rows padding n entries)) entries

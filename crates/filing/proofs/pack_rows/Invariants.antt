@@ -3,4 +3,4 @@ use Rattle.filing.proofs.Packing.{Packed}
 use Rattle.filing.proofs.pack_rows.Given as goal
 
 abbrev pub invariant-loop-at : goal.invariant-loop-at
-invariant-loop-at g l = Packed l.nothing l.n l.initial.entries l.entries l.at
+invariant-loop-at g l = Packed l.padding l.n l.initial.entries l.entries l.at
