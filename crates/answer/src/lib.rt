@@ -17,7 +17,7 @@ pub struct Numbers {
     pub count: usize,
 }
 
-// Here alone the five stand side by side: `tell_unique` speaks of them.
+// Here alone the five stand side by side, the refusal as its number, as it crosses to C: the clause, public, speaks of all five.
 pub fn tell(number: u32, first: usize, second: usize, third: usize, count: usize) -> Numbers
     ensures { told result ≡ answer number first second third count }
 {
@@ -37,15 +37,14 @@ fn crossing(number: usize) -> [u8; 4]
     ((number & 0xffff_ffff) as u32).to_be_bytes()
 }
 
-// An answer into an area of exactly 20 bytes, and its number handed back; with an area of another length that is 2, the document's
-// number for C, which `Answers` holds.
+// An answer into an area of exactly 20 bytes, and its number handed back; 2, the document's number for C in `Answers`, for another length.
 pub fn put_answer(area: &mut [u8], numbers: Numbers) -> u32
     ensures { Answers (told numbers) area.old area.new result }
 {
     if area.len() != 20 {
         return 2;
     }
-    // a widening `as`, since `usize` has no `From<u32>`
+    // A widening `as`, since `usize` has no `From<u32>`.
     let number = numbers.number as usize;
     let bytes = [
         number,

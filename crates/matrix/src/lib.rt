@@ -20,7 +20,7 @@ pub fn in_range(n: usize) -> bool
     (1..=MOST_REGIONS).contains(&n)
 }
 
-// The place of cell (i, j) in rows of a length, if there is such a cell.
+// The place of cell (i, j) in rows of a length, if there is such a cell. No struct of the three: the clauses, public, of `at` and `narrow`.
 #[tactic(auto, using(std::proofs::lemmas::Bool::Decides::nat_tests))]
 fn cell_place(width: usize, i: usize, j: usize) -> Option<usize>
     ensures { result ≡ cell_place width i j }
@@ -55,7 +55,7 @@ pub fn narrow(width: usize, cells: &mut [u8], i: usize, j: usize, set: RelationS
     }
 }
 
-// Every cell becomes the same entry.
+// Every cell becomes the same entry. The library's method under a name of its own: `fill_unique` keeps the function.
 pub fn fill(cells: &mut [u8], entry: u8)
     ensures { cells.new ≡ replicate (length cells.old) entry }
 {

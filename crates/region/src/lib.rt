@@ -13,8 +13,7 @@ pub struct Identifier(pub u32);
 #[derive(Clone, Copy, PartialEq, Eq, Debug)]
 pub struct Place(pub usize);
 
-// The place of the first of the first `count` entries that holds the identifier. `count` is no slice's length: `lookup_of` answers for one
-// past the end too.
+// The place of the first of `count` entries that holds it. No slice for both: the clause, public, speaks of a count past the end too.
 #[tactic(auto, unfolding(crate::specs::Lookup::lookup_of))]
 pub fn lookup(identifiers: &[u32], count: usize, wanted: Identifier) -> Option<Place>
     ensures { result ≡ lookup_of identifiers.now count wanted }
@@ -26,7 +25,7 @@ pub fn lookup(identifiers: &[u32], count: usize, wanted: Identifier) -> Option<P
         .map(Place)
 }
 
-// The identifier of the region at a place; 0, which no region has, past the last: no Option, as `identifier_at_unique` has it.
+// The region's identifier; 0, which none has, past the last: no Option, by the clause on `result.0`, and a call that cannot fail must not.
 pub fn identifier_at(identifiers: &[u32], place: Place) -> Identifier
     ensures { result.0 ≡ identifier_at identifiers.now place }
 {

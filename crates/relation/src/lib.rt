@@ -67,8 +67,7 @@ impl RelationSet {
         .map(|set| set.0)
     }
 
-    // Whether the relation with this place in the order of the bits is a member; above 7 no place has one. A number, and no kind of its
-    // own: `has_unique` speaks of every number.
+    // Whether the relation with this place in the order of the bits is a member. No kind of its own: `has_unique` speaks of every number.
     pub fn has(self, relation: usize) -> bool
         ensures { result ≡ has self.0 relation }
     {
