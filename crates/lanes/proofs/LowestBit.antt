@@ -12,6 +12,10 @@ use lib.Count.{count_trailing_zeros, under}
 use lib.ListN.{length}
 use lib.Dec.{eqb, eqb-suc-zero, eqb-suc-suc, eqb→eq, eqb_refl}
 use Rattle.relation.specs.Sets.{has}
+use Rattle.std.proofs.Common.{Some, None}
+use Rattle.lists.specs.Least.{found_below}
+use Rattle.lists.proofs.Splits.{split_eq}
+use Rattle.lists.proofs.Found.{found_some, found_none}
 use Rattle.relation.proofs.Tests.{same}
 use Rattle.relation.proofs.Member.{half_below, has_half, has_odd, has-intersect}
 use Rattle.lanes.specs.Places.{places_below, places, lowest_of, without_lowest}
@@ -144,12 +148,34 @@ pub places-none : places 0 ≡ []
 unfolding places places_below has
 places-none = refl
 
-pub places_next : (m k rest : ℕ) → m < 2 ^ 64 → 0 < m → k ≡ lowest_of m → rest ≡ without_lowest m → places m ≡ k ∷ places rest
-places_next m k rest h n e q = places-first m (lowest_facts m h n) ∙ ap₂ (λ (j r : ℕ). j ∷ places r) (sym e) (sym q)
-
-pub fewer_places : (m k rest : ℕ) → m < 2 ^ 64 → 0 < m → k ≡ lowest_of m → rest ≡ without_lowest m
-    → length (places rest) < length (places m)
-fewer_places m k rest h n e q = let next = ap length (places_next m k rest h n e q) in omega arith
-
 pub places_of_none : (m : ℕ) → m ≡ 0 → places m ≡ []
 places_of_none m e = ap places e ∙ places-none
+
+-- ---- what `lowest` finds
+
+pub none_lowest : lowest_of 0 ≡ 64
+unfolding count_trailing_zeros
+none_lowest = refl
+
+-- where a place is found, there is a bit
+some_bit : (m k : ℕ) → Some k ≡ found_below 64 (lowest_of m) → 0 < m
+some_bit m k e =
+    let place = found_some 64 (lowest_of m) e in
+    split_eq m 0 (λ z. let none : lowest_of m ≡ 64 = ap lowest_of z ∙ none_lowest in omega (arith, place.1)) (λ n. omega arith)
+
+-- where none is found, no place comes
+pub no_places : (m : ℕ) → m < 2 ^ 64 → None ≡ found_below 64 (lowest_of m) → places m ≡ []
+no_places m h e =
+    let past = found_none 64 (lowest_of m) e in
+    split_eq m 0 (places_of_none m) (λ n. let below = lowest_below 64 m h n in absurd (omega (arith, past)))
+
+-- the place that is found comes first, and those of the word without it are left
+pub places_next : (m k rest : ℕ) → m < 2 ^ 64 → Some k ≡ found_below 64 (lowest_of m) → rest ≡ without_lowest m
+    → places m ≡ k ∷ places rest
+places_next m k rest h e q =
+    places-first m (lowest_facts m h (some_bit m k e))
+    ∙ ap₂ (λ (j r : ℕ). j ∷ places r) (sym (found_some 64 (lowest_of m) e).0) (sym q)
+
+pub fewer_places : (m k rest : ℕ) → m < 2 ^ 64 → Some k ≡ found_below 64 (lowest_of m) → rest ≡ without_lowest m
+    → length (places rest) < length (places m)
+fewer_places m k rest h e q = let next = ap length (places_next m k rest h e q) in omega arith

@@ -1,14 +1,18 @@
 // The places of a word's bits, lowest first.
 ghost use Rattle.std.specs.Prelude.{◌≡◌};
 ghost use Rattle.std.specs.Iterator.{YieldsFirst, item_count};
+ghost use Rattle.lists.specs.Least.{found_below};
 ghost use Rattle.lanes.specs.Places.{lowest_of, without_lowest, places};
 ghost use Rattle.lanes.specs.Going.{places_left};
 
-// The place of the lowest bit; 64 if there is none.
-pub fn lowest(word: u64) -> usize
-    ensures { result ≡ lowest_of word }
+// The place of the lowest bit, if there is one.
+#[tactic(auto, using(std::proofs::lemmas::Bool::Decides::nat_tests))]
+pub fn lowest(word: u64) -> Option<usize>
+    ensures { result ≡ found_below 64 (lowest_of word) }
 {
-    u64::trailing_zeros(word) as usize
+    // A widening `as`, since `usize` has no `From<u32>`.
+    let place = word.trailing_zeros() as usize;
+    if place < 64 { Some(place) } else { None }
 }
 
 // The word less its lowest bit; 0 stays 0.
@@ -40,10 +44,7 @@ impl Iterator for Places {
     ghost remaining = { item_count places_left };
 
     fn next(&mut self) -> Option<usize> {
-        if self.0 == 0 {
-            return None;
-        }
-        let place = lowest(self.0);
+        let place = lowest(self.0)?;
         self.0 = without_lowest(self.0);
         Some(place)
     }

@@ -5,6 +5,7 @@ ghost use Rattle.planes.specs.Calls.{serves_cells, taken, given};
 ghost use Rattle.planes.specs.Inner.{Square};
 
 use crate::words::{block_at, put_block};
+use matrix::in_range;
 use rows::{give_row, take_row};
 
 // Every row into its block.
@@ -29,10 +30,11 @@ fn give_rows(n: usize, planes: &[u64], cells: &mut [u8])
 }
 
 // Whether n is in range and both lengths serve.
+#[tactic(auto, using(std::proofs::lemmas::Bool::Decides::nat_tests), unfolding(matrix::specs::Square::in_range))]
 fn serves(n: usize, cells: usize, planes: usize) -> bool
     ensures { result ≡ serves_cells n cells planes }
 {
-    (1..=64).contains(&n) && cells == n * n && planes == 8 * n
+    in_range(n) && cells == n * n && planes == 8 * n
 }
 
 // The cells of n regions into planes.

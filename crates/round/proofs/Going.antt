@@ -6,15 +6,12 @@ use mathlib.Core.List.{List, [], ◌∷◌, ◌++◌}
 use native.Mathlib.Nat.{le_refl, lt_of_le_of_lt, mod-eq_of_lt, one-mul}
 use native.Mathlib.Omega.{arith}
 use lib.Bits.{bit_and, and_le_l}
-use lib.Count.{count_trailing_zeros}
-use borrow.Author.Tests.{lt-ltb, le-ltb}
-use Rattle.std.proofs.Common.{Some, None}
 use lib.Dec.{T, eqb, eqb→eq, eqb_refl}
 use lib.ListN.{take, drop}
 use lib.Pow.{pow-lt}
 use lib.Seq.{paste}
 use borrow.Rule.Slice.PartMut.{put_mid}
-use Rattle.lists.specs.Least.{least, found_below}
+use Rattle.lists.specs.Least.{least}
 use Rattle.lists.proofs.Splits.{split_eq, by_test}
 use Rattle.lists.proofs.LeastLaws.{least-here, least_gone}
 use Rattle.relation.specs.Sets.{has, empty, universal}
@@ -24,7 +21,7 @@ use Rattle.lanes.specs.Words.{set_at}
 use Rattle.lanes.specs.Places.{lowest_of, places, places_below, in_turn, visited}
 use Rattle.lanes.proofs.Unions.{empty-has}
 use Rattle.lanes.proofs.Digits.{has_other}
-use Rattle.lanes.proofs.LowestBit.{lowest_facts}
+use Rattle.lanes.proofs.LowestBit.{lowest_facts, none_lowest}
 use Rattle.planes.specs.Planes.{block_of}
 use Rattle.round.specs.Onward.{wired_all}
 use Rattle.round.specs.Inner.{lanes_with_member, lanes_with_all, spread, narrowed, Room, part_of, Chosen}
@@ -133,10 +130,6 @@ chosen_is live common b w hl hc hb e = record {
 
 -- ---- the first empty lane
 
-none_lowest : lowest_of 0 ≡ 64
-unfolding count_trailing_zeros
-none_lowest = refl
-
 -- the lowest bit of a word is the least place that passes, where the bits are those that pass
 pub lowest_least : (m : ℕ) (test : ℕ → Bool) → m < 2 ^ 64 → ((k : ℕ) → k < 64 → has m k ≡ test k) → lowest_of m ≡ least 64 test
 lowest_least m test h e =
@@ -156,23 +149,3 @@ pub empty-least : (w : List ℕ) (members : ℕ) → members < 2 ^ 64 → member
 empty-least w members h e =
     lowest_least (18446744073709551615 - members) (λ x. eqb (set_at w x) empty) (omega arith)
     (λ k l. has_other members k h l ∙ ap not (ap (λ (x : ℕ). has x k) e ∙ has_members w k) ∙ not_not (eqb (set_at w k) empty))
-
--- where every lane has a member there is none; otherwise it is the lowest of those that have none
-module _ (w : List ℕ) (members : ℕ) (small : members < 2 ^ 64) (e : members ≡ lanes_with_member w) where
-  first : ℕ
-  first = least 64 (λ x. eqb (set_at w x) empty)
-
-  pub empty-none : 18446744073709551615 - members ≡ 0 → None ≡ found_below 64 (least 64 (λ x. eqb (set_at w x) empty))
-  unfolding first
-  empty-none z =
-      let place : 64 ≡ first = sym (ap lowest_of z ∙ none_lowest) ∙ empty-least w members small e in
-      sym (ap (λ (b : Bool). cond b (Some first) None) (le-ltb first 64 (omega arith)))
-
-  pub empty-some : (k : ℕ) → (18446744073709551615 - members ≡ 0 → ⊥) → k ≡ lowest_of (18446744073709551615 - members)
-      → Some k ≡ found_below 64 (least 64 (λ x. eqb (set_at w x) empty))
-  unfolding first
-  empty-some k n q =
-      let f = lowest_facts (18446744073709551615 - members) (omega arith) (split_eq (18446744073709551615 - members) 0 (λ z. absurd (n z)) (λ s. omega arith)) in
-      let place : k ≡ first = q ∙ empty-least w members small e in
-      let below : first < 64 = subst (λ (x : ℕ). x < 64) (sym q ∙ place) f.below in
-      ap (λ (x : ℕ). Some x) place ∙ sym (ap (λ (b : Bool). cond b (Some first) None) (lt-ltb first 64 below))

@@ -6,6 +6,7 @@ ghost use Rattle.round.specs.Inner.{Ready, Wiring, Blocks, Made};
 use crate::onward::spread_out;
 use crate::through::{chosen, empty_lane, through};
 use crate::words::differing;
+use matrix::in_range;
 use planes::{block_at, put_block};
 
 // Where the first empty set is, in row order.
@@ -40,6 +41,7 @@ fn make_blocks(
 }
 
 // The round, where n and all lengths serve and the live regions are below n.
+// No struct of the five: `Rounds`, the clause of `round`, speaks of each, and after `spread_out` `onward` is only read and `new` written.
 fn make_round(
     n: usize,
     live: u64,
@@ -54,11 +56,12 @@ fn make_round(
     make_blocks(n, live, old, new, onward)
 }
 
-// Whether n is in range and every length serves. The three slices stay three: `old` is read and the others written, by other functions each.
+// Whether n is in range and every length serves.
+#[tactic(auto, using(std::proofs::lemmas::Bool::Decides::nat_tests), unfolding(matrix::specs::Square::in_range))]
 fn serves(n: usize, old: usize, new: usize, onward: usize) -> bool
     ensures { result ≡ serves_round n old new onward }
 {
-    (1..=64).contains(&n) && old == 8 * n && new == 8 * n && 64 * n <= onward
+    in_range(n) && old == 8 * n && new == 8 * n && 64 * n <= onward
 }
 
 // The regions of a mask that are below n.
@@ -69,8 +72,8 @@ fn below(n: usize, live: u64) -> u64
     live & (u64::MAX >> (64 - n))
 }
 
-// A round from `old` to `new` through the live regions: the columns that changed, which are the live regions of the next round, or where the
-// first empty set is; row 0, column 0 where n or a length does not serve. `onward` is room for what the live rows give: 64 words to a region.
+// A round from `old` to `new` through the live regions: the columns that changed, live in the next round, or where the first empty set is.
+// `onward` is room for what the live rows give: 64 words to a region.
 pub fn round(
     n: usize,
     live: u64,
@@ -83,5 +86,6 @@ pub fn round(
     if serves(n, old.len(), new.len(), onward.len()) {
         return make_round(n, below(n, live), old, new, onward);
     }
+    // No case of its own: the clause `Rounds` fixes row 0, column 0 where n or a length does not serve.
     Err(Emptied { row: 0, column: 0 })
 }

@@ -22,6 +22,7 @@ pub(crate) fn through(w: [u64; 8], ks: u64, onward: &[u64]) -> [u64; 8]
 {
     let mut all = w;
     for k in places_of(ks) {
+        // First under a name: a call's result is not laid in a local that holds an array (tried).
         let next = narrow(all, everywhere(w, k), &onward[64 * k..64 * k + 64]);
         all = next;
     }
@@ -32,8 +33,5 @@ pub(crate) fn through(w: [u64; 8], ks: u64, onward: &[u64]) -> [u64; 8]
 pub(crate) fn empty_lane(w: [u64; 8]) -> Option<usize>
     ensures { result ≡ found_below 64 (least 64 (λ x. eqb (set_at w x) 0)) }
 {
-    match !members(w) {
-        0 => None,
-        empty => Some(lowest(empty)),
-    }
+    lowest(!members(w))
 }

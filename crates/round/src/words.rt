@@ -28,6 +28,7 @@ pub(crate) fn narrow(all: [u64; 8], a: [u64; 8], onward: &[u64]) -> [u64; 8]
 {
     let mut one = [0; 8];
     for p in 0..8 {
+        // First under a name: a call's result is not laid in a local that holds an array (tried).
         let next = united(one, a[p], &onward[8 * p..]);
         one = next;
     }

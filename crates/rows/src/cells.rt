@@ -34,6 +34,7 @@ pub fn take_row(cells: &[u8]) -> [u64; 8]
         if cells.len() <= at {
             return w.map(|word| word | u64::MAX << at);
         }
+        // First under a name: a call's result is not laid in a local that holds an array (tried).
         let more = with_lanes(w, at, turned(eight_cells(cells, at)));
         w = more;
     }
@@ -53,6 +54,7 @@ fn give_lanes(w: [u64; 8], cells: &mut [u8])
     requires { length cells.old ≤ 64 }
     ensures { cells.new ≡ row_cells (length cells.old) w }
 {
+    // By places, whole blocks and then the rest: after `chunks_mut`, which has both, a proof knows the lengths alone (tried).
     for block in 0..cells.len() / 8 {
         let at = 8 * block;
         cells[at..at + 8].copy_from_slice(&turned(eight_lanes(w, at)));
