@@ -1,4 +1,5 @@
--- What the line of a refused refinement needs; no public contract cites it.
+-- What the line of a refused refinement needs; no public contract cites it. Not in `Inner`, which rests on the struct `Pairs`: the code
+-- of that struct names this.
 use Rattle.std.specs.Prelude.{⊤}
 use Rattle.network.specs.declared.Unrefined.{Unrefined}
 use Rattle.network.specs.declared.Unrefined.TheVariants.{Refused, Unfinished, Unprepared, OutOfRange, WrongLength}

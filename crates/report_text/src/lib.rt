@@ -62,7 +62,8 @@ pub fn class_of(arc: RelationSet, refined: RelationSet) -> Class
     }
 }
 
-// A scene that was read: its regions by their identifiers, and for each cell what was stated and its mark.
+// A scene that was read: its regions by their identifiers, and for each cell what was stated and its mark. `n` is the matrix's side;
+// of `identifiers` the whole area stays, since `Reported` looks a region up by its place alone.
 #[derive(Clone, Copy)]
 pub(crate) struct Stated<'a> {
     n: usize,

@@ -33,7 +33,7 @@ pub enum Refusal {
 }
 
 impl Refusal {
-    // Document 01's number. A `match`, since no two discriminants may be equal, as must-fail/nine_for_ten makes two numbers.
+    // Document 01's number. A `match`: discriminants differ, and must-fail/nine_for_ten makes two the same.
     pub fn number(self) -> u32
         ensures { result ≡ number_of self }
     {

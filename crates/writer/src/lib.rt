@@ -33,7 +33,7 @@ pub enum Unwritten {
 }
 
 // Writes the scene of n regions into the front of the buffer, and answers how many bytes it has; a refused write leaves the buffer
-// untouched.
+// untouched. The matrix comes in three parts, since `Writes` answers 1 and 2 about them where they make none.
 pub fn write(
     n: usize,
     identifiers: &[u32],

@@ -11,6 +11,7 @@ use region::{Identifier, identifier_at};
 use relation::RelationSet;
 use scene::format::{Kind, REGION_BYTES, STATEMENT_BYTES};
 
+// A buffer and an offset, no cursor: each clause is `sets buffer at ..` of the one lent buffer of which `Writes` speaks.
 // A region record from an offset on.
 fn put_region(buffer: &mut [u8], at: usize, identifier: Identifier)
     requires { at + 5 ≤ length buffer.old }
@@ -31,7 +32,7 @@ fn put_statement(buffer: &mut [u8], at: usize, a: Identifier, b: Identifier, set
     buffer[at + 9] = set.0;
 }
 
-// The region records in place order, from the buffer's beginning on.
+// The region records in place order, from the buffer's beginning on. By offsets: after `chunks_exact_mut` a proof knows lengths alone.
 fn put_regions(identifiers: &[u32], buffer: &mut [u8])
     requires { 5 * length identifiers.now ≤ length buffer.old }
     ensures { buffer.new ≡ sets buffer.old 0 (region_records identifiers.now) }

@@ -21,5 +21,9 @@ front_more at room more space part within fits =
 
 pub loop-done-preserved : goal.loop-done-preserved
 loop-done-preserved g c =
-    let read = front_more c.loop-done.done _ c.in_ok-more.more c.loop-done.space c.read.new.buf c.loop-done.invariant.1 c.in_ok-more.ensures.bound.0 in
-    (search rules, search rules, subst (Consumes _ _) read (Consumes-trans _ _ _ _ _ c.loop-done.invariant.2 c.in_ok-more.ensures.bytes.0))
+    let read = front_more c.loop-done.done _ c.in_ok-more.more c.loop-done.space c.read.new.buf c.loop-done.invariant.within c.in_ok-more.ensures.bound.0 in
+    record {
+      long = search rules;
+      within = search rules;
+      consumed = subst (Consumes _ _) read (Consumes-trans _ _ _ _ _ c.loop-done.invariant.consumed c.in_ok-more.ensures.bytes.0);
+    }
