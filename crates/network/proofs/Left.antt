@@ -18,6 +18,7 @@ use Rattle.refinement.specs.Round.{ran_out}
 use Rattle.refinement.specs.Refine.{rounds}
 use Rattle.refinement.specs.Run.{after_rounds}
 use Rattle.network.specs.declared.Area.{Area}
+use Rattle.network.specs.declared.areas.WorkAreas.{WorkAreas}
 use Rattle.network.specs.declared.Area.TheVariants.{First, Second}
 use Rattle.network.specs.Verdict.{Verdict}
 use Rattle.network.specs.declared.turning.Ended.{Ended}
@@ -32,6 +33,13 @@ unfolding Ends Placed
 ends_placed n most m old new (Empty row column round) e = (e.row_lt, e.column_lt, e.runs_out)
 ends_placed n most m old new (Same count) e = tt
 ends_placed n most m old new (UsedUp count) e = tt
+
+-- what each of the two areas holds is a matrix
+pub first_square : (areas : WorkAreas) → Square areas.n areas.first.now
+first_square areas = record { some = areas.some; few = areas.few; size = areas.first_size }
+
+pub second_square : (areas : WorkAreas) → Square areas.n areas.second.now
+second_square areas = record { some = areas.some; few = areas.few; size = areas.second_size }
 
 -- the planes that are chosen for each area are given to it
 pub shares : (n : ℕ) (area : Area) (old new : List ℕ) {one other first second first' second' : List ℕ} → length old ≡ 8 * n → length new ≡ 8 * n

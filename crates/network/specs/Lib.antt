@@ -14,3 +14,4 @@ pub mod Chain
 pub mod Made
 -- what functions inside the crate promise
 pub mod Inner
+pub mod WorkAreas

@@ -5,4 +5,5 @@ use Rattle.network.proofs.rounds.run.Goals as goal
 
 pub returns-then-not-is_plain : goal.returns-then-not-is_plain
 returns-then-not-is_plain c =
-    let tested = rw c.named.ensures.bytes at c.is_plain.ensures in unplain_meets _ _ _ _ _ (sym tested ∙ c.if-not-is_plain.true)
+    let tested = rw (c.matrix.ensures.size, c.matrix.ensures.cells) at c.is_plain.ensures in
+    unplain_meets _ _ _ _ _ (sym tested ∙ c.if-not-is_plain.true)

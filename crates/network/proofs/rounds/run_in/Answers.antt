@@ -5,9 +5,10 @@ use Rattle.network.proofs.rounds.run_in.Goals as goal
 
 pub leave-requires : goal.leave-requires
 leave-requires c =
-    (ends_placed _ _ _ _ _ _ c.some_rounds-ended.ensures, search rules, search rules, c.requires.2, c.requires.3)
+    let ends = rw c.matrix-matrix.ensures.size at c.some_rounds-ended.ensures in (ends_placed _ _ _ _ _ _ ends, search rules, search rules)
 
-pub returns : goal.returns
-returns c =
-    let ends = rw c.named-cells.ensures.bytes at c.some_rounds-ended.ensures in
-    leaves-meets _ _ _ _ _ _ _ _ _ c.requires.2.size c.requires.3.size _ _ ends c.leave.ensures
+pub returns-clause-left : goal.returns-clause-left
+returns-clause-left c =
+    let areas = c.args.areas.now in
+    let ends = rw (c.matrix-matrix.ensures.size, c.matrix-matrix.ensures.cells) at c.some_rounds-ended.ensures in
+    leaves-meets _ _ _ _ _ _ _ _ _ areas.first_size areas.second_size _ _ ends c.leave.ensures.left
