@@ -18,7 +18,7 @@ use Rattle.refinement.specs.Round.{ran_out}
 use Rattle.refinement.specs.Refine.{rounds}
 use Rattle.refinement.specs.Run.{after_rounds}
 use Rattle.network.specs.declared.Area.{Area}
-use Rattle.network.specs.declared.areas.WorkAreas.{WorkAreas}
+use Rattle.network.specs.declared.leaving.WorkAreas.{WorkAreas}
 use Rattle.network.specs.declared.Area.TheVariants.{First, Second}
 use Rattle.network.specs.Verdict.{Verdict}
 use Rattle.network.specs.declared.turning.Ended.{Ended}

@@ -1,41 +1,9 @@
 // The two lent work areas.
-ghost use Rattle.std.specs.Prelude.{◌≡◌, ◌*◌, ◌≤◌, length};
+ghost use Rattle.std.specs.Prelude.{◌≡◌};
 ghost use Rattle.network.specs.Areas.{other, chosen, holds};
 ghost use Rattle.network.specs.Inner.{Clears};
 
 use crate::Area;
-use crate::lent::Matrix;
-
-// Of n regions, from 1 to 64, in exactly n² bytes each. They stay the caller's.
-#[derive(Drop)]
-pub(crate) struct WorkAreas<'a> {
-    pub(crate) n: usize,
-    pub(crate) first: &'a mut [u8],
-    pub(crate) second: &'a mut [u8],
-    ghost some: { 1 ≤ n },
-    ghost few: { n ≤ 64 },
-    ghost first_size: { length first.now ≡ n * n },
-    ghost second_size: { length second.now ≡ n * n },
-}
-
-impl WorkAreas<'_> {
-    // The matrix in the area named.
-    pub(crate) fn matrix(&self, area: Area) -> Matrix<'_>
-        ensures size { result.n ≡ self.now.n }
-        ensures cells { result.cells.now ≡ chosen area self.now.first.now self.now.second.now }
-    {
-        match area {
-            Area::First => Matrix {
-                n: self.n,
-                cells: &*self.first,
-            },
-            Area::Second => Matrix {
-                n: self.n,
-                cells: &*self.second,
-            },
-        }
-    }
-}
 
 pub(crate) fn other(area: Area) -> Area
     ensures { result ≡ other area }

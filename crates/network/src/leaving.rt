@@ -1,20 +1,51 @@
-// What some rounds leave in the two areas, and their verdict.
-ghost use Rattle.std.specs.Prelude.{◌≡◌, ◌*◌, ◌<◌, length, Ok, Err};
+// The two lent work areas of a run, what some rounds leave in them, and their verdict.
+ghost use Rattle.std.specs.Prelude.{◌≡◌, ◌*◌, ◌≤◌, ◌<◌, length, Ok, Err};
 ghost use Rattle.planes.specs.Planes.{planes_matrix};
 ghost use Rattle.refinement.specs.Round.{ran_out};
+ghost use Rattle.network.specs.Areas.{chosen};
 ghost use Rattle.network.specs.Inner.{Placed, Refuses, Rests, Shares, Stops, Leaves};
-ghost use Rattle.network.specs.WorkAreas.{SameAreas};
 
-use crate::areas::{self, WorkAreas, clear, holds, other};
+use crate::areas::{self, clear, holds, other};
 use crate::emptied::ran_out;
+use crate::lent::Matrix;
 use crate::turning::Ended;
 use crate::{Accepted, Area, Contradiction, Unrefined};
 use planes::give;
 use region::Place;
 
-// The planes stay slices: in a struct each would have a number of regions, and the clauses would say that it is the areas' one where they
-// now give the length.
+// Of n regions, from 1 to 64, in exactly n² bytes each. They stay the caller's.
+// Planes stay slices: a struct of them has an n of its own, which each clause would call the areas' where it now gives a length.
+#[derive(Drop)]
+pub(crate) struct WorkAreas<'a> {
+    pub(crate) n: usize,
+    pub(crate) first: &'a mut [u8],
+    pub(crate) second: &'a mut [u8],
+    ghost some: { 1 ≤ n },
+    ghost few: { n ≤ 64 },
+    ghost first_size: { length first.now ≡ n * n },
+    ghost second_size: { length second.now ≡ n * n },
+}
+
 impl WorkAreas<'_> {
+    ghost use Rattle.network.specs.WorkAreas.{SameAreas};
+
+    // The matrix in the area named.
+    pub(crate) fn matrix(&self, area: Area) -> Matrix<'_>
+        ensures size { result.n ≡ self.now.n }
+        ensures cells { result.cells.now ≡ chosen area self.now.first.now self.now.second.now }
+    {
+        match area {
+            Area::First => Matrix {
+                n: self.n,
+                cells: &*self.first,
+            },
+            Area::Second => Matrix {
+                n: self.n,
+                cells: &*self.second,
+            },
+        }
+    }
+
     // A set ran empty in the round from `old`: the triple is told, and both areas are cleared.
     fn refuse(&mut self, row: usize, column: usize, round: usize, old: &[u64]) -> Unrefined
         requires placed { (row < self.old.n) × (column < self.old.n)

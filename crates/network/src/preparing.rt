@@ -77,6 +77,7 @@ fn node_and_arc(cells: &Matrix, first: &mut [u8]) -> Result<(), Contradiction>
 }
 
 // Preparation in areas of exactly n² bytes: a contradiction clears both.
+// No `WorkAreas`: `node_and_arc` writes the first alone, and a field that is lent so is not covered where the struct is made here.
 pub(crate) fn make_ready(
     n: usize,
     cells: &[u8],

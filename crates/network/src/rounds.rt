@@ -6,13 +6,13 @@ ghost use Rattle.network.specs.Areas.{chosen};
 ghost use Rattle.network.specs.Inner.{Room, Startable, Meets, rounds_or};
 ghost use Rattle.network.specs.WorkAreas.{SameAreas};
 
-use crate::areas::WorkAreas;
+use crate::leaving::WorkAreas;
 use crate::plain::is_plain;
 use crate::turning::some_rounds;
 use crate::{Accepted, Area, Unrefined};
 
-// The rounds in the room lent for their planes, and what they leave. `old`, `new` and `onward` stay three parameters: a round reads one and
-// writes two, so a struct of three `&mut` would be taken apart again at each call and be no plainer.
+// The rounds in the room lent for their planes, and what they leave.
+// A struct of `old`, `new` and `onward` would be taken apart at each round, which reads one and writes two.
 fn run_in(
     areas: &mut WorkAreas,
     area: Area,
@@ -58,7 +58,8 @@ fn run_with_room<const WORDS: usize, const ONWARD: usize>(
     )
 }
 
-// A run in areas of exactly n² bytes, which are lent apart: the matrix is tested first.
+// A run in areas of exactly n² bytes: the matrix is tested first.
+// Made one here: with `first: &mut first[..n * n]` in the struct, what the front holds afterwards stayed open in the proof.
 pub(crate) fn run(
     n: usize,
     area: Area,

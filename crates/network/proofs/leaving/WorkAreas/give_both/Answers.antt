@@ -1,6 +1,6 @@
 -- `WorkAreas::give_both` meets its contract, by the area named.
 use Rattle.network.proofs.Left.{first_square, second_square, shares}
-use Rattle.network.proofs.areas.WorkAreas.give_both.Goals as goal
+use Rattle.network.proofs.leaving.WorkAreas.give_both.Goals as goal
 
 pub returns-clause-left : goal.returns-clause-left
 returns-clause-left c =

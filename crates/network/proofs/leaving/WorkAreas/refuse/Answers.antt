@@ -9,7 +9,7 @@ use Rattle.round.proofs.Steps.{gives}
 use Rattle.refinement.specs.declared.Contradiction.TheVariants.{Triple}
 use Rattle.network.specs.declared.Unrefined.TheVariants.{Refused}
 use Rattle.network.proofs.Left.{first_square, size_of, ran_out_there}
-use Rattle.network.proofs.areas.WorkAreas.refuse.Goals as goal
+use Rattle.network.proofs.leaving.WorkAreas.refuse.Goals as goal
 
 same_place : {found : Option ℕ} {k other : ℕ} → found ≡ Some k → found ≡ Some other → k ≡ other
 same_place e f = cc
