@@ -1,5 +1,5 @@
 -- What functions inside the crate promise one another; no public contract cites it.
-use Rattle.std.specs.Prelude.{◌≡◌, true, not, cond, List, ℕ, zero, suc, ◌*◌, ◌≤◌, ◌<◌, ltb, length, replicate, Err}
+use Rattle.std.specs.Prelude.{◌≡◌, true, not, ◌&&◌, cond, List, ℕ, zero, suc, ◌*◌, ◌≤◌, ◌<◌, leb, ltb, length, replicate, Result, Ok, Err}
 use Rattle.answer.specs.Answer.{answer}
 use Rattle.answer.specs.Ending.{Ending, accepted, refused, answered, stop}
 use Rattle.refinement.specs.declared.Contradiction.TheVariants.{Triple}
@@ -8,12 +8,13 @@ use Rattle.refinement.specs.Prepare.{Preparation, prepared, preparation}
 use Rattle.refinement.specs.Round.{ran_out}
 use Rattle.refinement.specs.Refine.{started, rounds}
 use Rattle.refinement.specs.Run.{is_plain, after_rounds}
-use Rattle.matrix.specs.Square.{Square}
+use Rattle.matrix.specs.Square.{in_range, Square}
 use Rattle.planes.specs.Planes.{planes_matrix}
 use Rattle.region.specs.Lookup.{place}
 use Rattle.network.specs.declared.Area.{Area}
 use Rattle.network.specs.declared.Area.TheVariants.{First, Second}
-use Rattle.network.specs.declared.Unrefined.TheVariants.{Refused, Unfinished}
+use Rattle.network.specs.declared.Unrefined.{Unrefined}
+use Rattle.network.specs.declared.Unrefined.TheVariants.{Refused, Unfinished, OutOfRange, WrongLength}
 use Rattle.network.specs.declared.turning.Ended.{Ended}
 use Rattle.network.specs.declared.turning.Ended.TheVariants.{Empty, Same, UsedUp}
 use Rattle.network.specs.Verdict.{Verdict, Start, acceptance}
@@ -22,6 +23,10 @@ use Rattle.network.specs.Numbers.{answer_of, answer_of_start}
 use Rattle.network.specs.Refined.{leaves}
 use Rattle.network.specs.Prepared.{leaves_second}
 use Rattle.network.specs.Ran.{answered_from, NamesFrom, left_by}
+
+-- how many cells n regions have, if n is in range and both areas have so many; with how long each area is
+abbrev pub size_within : ℕ → ℕ → ℕ → Result ℕ Unrefined
+size_within n first second = cond (in_range n) (cond (leb (n * n) first && leb (n * n) second) (Ok (n * n)) (Err WrongLength)) (Err OutOfRange)
 
 -- preparing: what it came to; the first area is written once the node rule leaves no region empty
 pub record Prepares (n : ℕ) (cells first first' : List ℕ) (answer : Preparation) : Type 0 where

@@ -5,6 +5,7 @@ ghost use Rattle.matrix.specs.Cells.{cell};
 use relation::RelationSet;
 
 // Of n regions, from 1 to 64, in exactly n² bytes.
+// Not a type of crate `matrix`: `NamedMatrix` and `Stated` hold more, so it would only be one more field to reach through there.
 #[derive(Clone, Copy)]
 pub(crate) struct Matrix<'a> {
     pub(crate) n: usize,

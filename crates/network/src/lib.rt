@@ -11,10 +11,12 @@ mod preparing;
 mod rounds;
 mod turning;
 
+ghost use Rattle.std.specs.Prelude.{◌≡◌};
 ghost use Rattle.network.specs.Prepared.{Prepared};
 ghost use Rattle.network.specs.Ran.{Ran};
 ghost use Rattle.network.specs.Refined.{Refined};
 ghost use Rattle.network.specs.Handed.{Handed};
+ghost use Rattle.network.specs.Inner.{size_within};
 
 pub use refinement::Contradiction;
 
@@ -51,23 +53,33 @@ pub enum Unrefined {
 // One more than the rounds that can change something of 64 regions.
 const ENOUGH: usize = 14113;
 
-// Prepares the matrix of n regions: the checks, then the node and arc rules. The rounds can start from the first area.
+// How many cells n regions have, if n is in range and both areas, of these lengths, have so many.
 #[tactic(auto, using(crate::proofs::Fronts::cells_fit))]
-pub fn prepare(n: usize, cells: &[u8], first: &mut [u8], second: &mut [u8]) -> Result<(), Unrefined>
-    ensures { Prepared n cells.now first.old second.old first.new second.new result }
+fn size_within(n: usize, first: usize, second: usize) -> Result<usize, Unrefined>
+    ensures { result ≡ size_within n first second }
 {
     if !matrix::in_range(n) {
         return Err(Unrefined::OutOfRange);
     }
     let size = n * n;
-    if cells.len() != size || first.len() < size || second.len() < size {
+    if first < size || second < size {
+        return Err(Unrefined::WrongLength);
+    }
+    Ok(size)
+}
+
+// Prepares the matrix of n regions: the checks, then the node and arc rules. The rounds can start from the first area.
+pub fn prepare(n: usize, cells: &[u8], first: &mut [u8], second: &mut [u8]) -> Result<(), Unrefined>
+    ensures { Prepared n cells.now first.old second.old first.new second.new result }
+{
+    let size = size_within(n, first.len(), second.len())?;
+    if cells.len() != size {
         return Err(Unrefined::WrongLength);
     }
     preparing::make_ready(n, cells, &mut first[..size], &mut second[..size])
 }
 
 // Up to so many rounds, the confirming one included, from the network in the area named.
-#[tactic(auto, using(crate::proofs::Fronts::cells_fit))]
 pub fn run(
     n: usize,
     area: Area,
@@ -77,13 +89,7 @@ pub fn run(
 ) -> Result<Accepted, Unrefined>
     ensures { Ran n area most first.old second.old first.new second.new result }
 {
-    if !matrix::in_range(n) {
-        return Err(Unrefined::OutOfRange);
-    }
-    let size = n * n;
-    if first.len() < size || second.len() < size {
-        return Err(Unrefined::WrongLength);
-    }
+    let size = size_within(n, first.len(), second.len())?;
     rounds::run(n, area, most, &mut first[..size], &mut second[..size])
 }
 
@@ -102,7 +108,6 @@ pub fn refine(
 
 // The network of an accepting verdict: the first n² bytes of the area that it names, that area itself. An empty part of the
 // first area for a refusal, an n outside 1 to 64, or an area shorter than n².
-#[tactic(auto, using(crate::proofs::Fronts::cells_fit))]
 pub fn network<'a>(
     first: &'a [u8],
     second: &'a [u8],
@@ -113,12 +118,8 @@ pub fn network<'a>(
     let Ok(Accepted { regions, area, .. }) = verdict else {
         return &first[..0];
     };
-    if !matrix::in_range(regions) {
+    let Ok(cells) = size_within(regions, first.len(), second.len()) else {
         return &first[..0];
-    }
-    let cells = regions * regions;
-    if first.len() < cells || second.len() < cells {
-        return &first[..0];
-    }
+    };
     &areas::named(area, first, second)[..cells]
 }

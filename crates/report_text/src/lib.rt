@@ -64,6 +64,7 @@ pub fn class_of(arc: RelationSet, refined: RelationSet) -> Class
 
 // A scene that was read: its regions by their identifiers, and for each cell what was stated and its mark. `n` is the matrix's side;
 // of `identifiers` the whole area stays, since `Reported` looks a region up by its place alone.
+// No matrix inside: `n` is the side of the marks too, so one would only be one more field to reach through.
 #[derive(Clone, Copy)]
 pub(crate) struct Stated<'a> {
     n: usize,

@@ -9,6 +9,7 @@ use relation::RelationSet;
 use scene::format::{REGION_BYTES, STATEMENT_BYTES};
 
 // An identifier for each of the n regions, and the cells row by row.
+// No matrix inside: `n` is the number of identifiers too, so one would only be one more field to reach through.
 #[derive(Clone, Copy)]
 pub(crate) struct NamedMatrix<'a> {
     pub(crate) n: usize,
