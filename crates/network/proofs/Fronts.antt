@@ -123,9 +123,13 @@ prepared_refused n cells first second unrefined e =
     subst P e (by_size P n (length first) (length second)
     (λ i. prepared_untouched n cells first second (answer 1 0 0 0 0) (Err OutOfRange) (readied_outside _ _ _ _ i) refl refl)
     (λ i h. split_eq (length cells) (n * n)
-    (λ l. prepared_untouched n cells first second (answer 2 0 0 0 0) (Err WrongLength) (readied_short_first _ _ _ _ i l h) refl refl) (wrong i))
+    (λ l. prepared_untouched n cells first second (answer 2 0 0 0 0) (Err WrongLength)
+    (readied_short_first _ _ _ _ i l h) refl refl)
+    (wrong i))
     (λ i u h. split_eq (length cells) (n * n)
-    (λ l. prepared_untouched n cells first second (answer 2 0 0 0 0) (Err WrongLength) (readied_short_second _ _ _ _ i l u h) refl refl) (wrong i))
+    (λ l. prepared_untouched n cells first second (answer 2 0 0 0 0) (Err WrongLength)
+    (readied_short_second _ _ _ _ i l u h) refl refl)
+    (wrong i))
     (λ _ _ _. tt))
 
 -- ---- a run

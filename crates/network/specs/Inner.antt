@@ -26,7 +26,8 @@ use Rattle.network.specs.Ran.{answered_from, NamesFrom, left_by}
 
 -- how many cells n regions have, if n is in range and both areas have so many; with how long each area is
 abbrev pub size_within : ℕ → ℕ → ℕ → Result ℕ Unrefined
-size_within n first second = cond (in_range n) (cond (leb (n * n) first && leb (n * n) second) (Ok (n * n)) (Err WrongLength)) (Err OutOfRange)
+size_within n first second =
+    cond (in_range n) (cond (leb (n * n) first && leb (n * n) second) (Ok (n * n)) (Err WrongLength)) (Err OutOfRange)
 
 -- preparing: what it came to; the first area is written once the node rule leaves no region empty
 pub record Prepares (n : ℕ) (cells first first' : List ℕ) (answer : Preparation) : Type 0 where

@@ -15,7 +15,7 @@ returns-in_err-size c =
 pub returns-then-cells-size : goal.returns-then-cells-size
 returns-then-cells-size c =
     let s = size_served _ _ _ _ (sym c.size_within.ensures ∙ c.in_ok-size.was) in
-    prepared_untouched _ _ _ _ (answer 2 0 0 0 0) _ (readied_wrong_cells _ _ _ _ s.1 (λ e. c.if-cells-size.true (e ∙ sym s.0))) refl refl
+    prepared_untouched _ _ _ _ (answer 2 0 0 0 0) _ (readied_wrong_cells _ _ _ _ s.1 (rw s.0 at c.if-cells-size.true)) refl refl
 
 pub make_ready-requires : goal.make_ready-requires
 make_ready-requires c =
