@@ -2,11 +2,11 @@
 use mathlib.Core.Path.{◌≡◌, refl, subst}
 use mathlib.Core.Bool.{Bool, true, false, not}
 use mathlib.Core.List.{List}
-use Prim.Native.Nat.{ℕ, ◌≤◌}
+use Prim.Native.Nat.{ℕ, ◌≤◌, ◌<◌}
 use native.Mathlib.Omega.{arith}
 use lib.Dec.{ltb}
 use lib.ListN.{length}
-use borrow.Author.Tests.{le-ltb, ltb-false, not-false}
+use borrow.Author.Tests.{lt-ltb, le-ltb, ltb-false, not-false}
 use Rattle.answer.specs.Ending.{Ending, stop}
 use Rattle.answer.proofs.Stops.{by_stop}
 use Rattle.filing.specs.Said.{Said}
@@ -23,6 +23,11 @@ use Rattle.scene.proofs.Reached.{Ended, at_end, at_refusal, ended}
 pub within_limit : (scene : List ℕ) → length scene ≤ most_bytes → read_scene scene ≡ records scene
 unfolding read_scene
 within_limit scene h = rw (le-ltb most_bytes (length scene) h)
+
+-- and over it 3
+pub over_limit : (scene : List ℕ) → most_bytes < length scene → read_scene scene ≡ refused_at 3 most_bytes
+unfolding read_scene
+over_limit scene h = rw (lt-ltb most_bytes (length scene) h)
 
 -- areas of the right lengths: what the scene says
 pub right-areas : (scene : List ℕ) {areas : Areas} → Lent areas → read_of scene areas ≡ read_scene scene

@@ -13,7 +13,7 @@ use Rattle.matrix.specs.Square.{most_regions}
 use Rattle.filing.specs.Said.{Said, regions, naming, silent, declared, statement as made, stated}
 use Rattle.filing.specs.Areas.{Areas, holding, Lent, started, filed_in, marked_in}
 use Rattle.filing.proofs.PlaceLaws.{place_found}
-use Rattle.filing.proofs.Held.{Held, held_begins, held_front, held_declared, held_stated}
+use Rattle.filing.proofs.Held.{Held, held_begins, held_lent, held_front, held_declared, held_stated}
 use Rattle.scene.specs.Record.{record_at}
 use Rattle.scene.specs.Reading.{accepted_said, refused_at, records}
 use Rattle.scene.specs.Numbers.{number_of}
@@ -45,9 +45,15 @@ going_begins scene lent e = record {
 }
 
 module _ {scene : List ℕ} {areas : Areas} {at count statements : ℕ} (w : Going scene areas at count statements) where
+  pub going_count : count ≤ most_regions
+  going_count = omega (arith, w.counted, w.held.few)
+
   -- a statement has ten bytes
   pub going_passed : 10 * statements ≤ at
   going_passed = omega (arith, reached_far scene w.reached, w.numbered)
+
+  pub going_lent : Lent areas
+  going_lent = held_lent w.held
 
   -- the entries that the code judges by are the identifiers said so far, so its judgement is theirs
   module _ {entries : List ℕ} (same : entries ≡ areas.identifiers) {r : Result Record Refused}

@@ -1,6 +1,7 @@
--- one record: its number, and why it is judged as it is
+-- one record: its number, why it is judged as it is, and what was read and found as its judgement
 pub mod Numbered
 pub mod Reasons
+pub mod Judging
 -- all records: how far they come, and how a reading ends
 pub mod Reached
 pub mod Endings
@@ -11,6 +12,7 @@ pub mod Marked
 pub mod Small
 -- what a refused one is like
 pub mod Behind
+pub mod Spanning
 -- the calls: what they leave is what they promise, and what that tells a caller
 pub mod Going
 pub mod Promised

@@ -35,6 +35,10 @@ numbered NotDeclared = numbered_from (omega arith) (omega arith)
 numbered EmptySet = numbered_from (omega arith) (omega arith)
 numbered BytesLeft = numbered_from (omega arith) (omega arith)
 
--- the test of a definition whether a number is 2 fails
-pub is_no_length : {number : ℕ} → Numbered number → eqb number 2 ≡ false
-is_no_length {number} n = ne_eqb number 2 n.no_length
+-- the test of a definition whether a number is 2 or 3 fails
+module _ {number : ℕ} (n : Numbered number) where
+  pub is_no_length : eqb number 2 ≡ false
+  is_no_length = ne_eqb number 2 n.no_length
+
+  pub is_no_limit : eqb number 3 ≡ false
+  is_no_limit = ne_eqb number 3 n.no_limit

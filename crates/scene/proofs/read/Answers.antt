@@ -1,7 +1,7 @@
 -- `scene::read` meets its contract: the lengths, then what reading into the areas gives.
 use Rattle.std.proofs.Common.{rules, sym, ◌∙◌}
 use Rattle.filing.proofs.Lending.{lent_so}
-use Rattle.scene.proofs.Promised.{wrong_length, accepted_reads, refused_reads, reads_as}
+use Rattle.scene.proofs.Promised.{wrong_length, accepted_reads, cleared_reads, reads_as}
 use Rattle.scene.proofs.read.Goals as goal
 
 pub returns-then-not-are_lent : goal.returns-then-not-are_lent
@@ -19,4 +19,4 @@ pub returns-then-is_err : goal.returns-then-is_err
 returns-then-is_err c =
     let lent = lent_so _ (sym c.are_lent.ensures ∙ c.if-not-are_lent.false) in
     reads_as (search rules)
-    (refused_reads lent _ (sym c.is_err.ensures.value ∙ c.if-is_err.true) c.read_records-reading.ensures.read c.read_records-reading.ensures.lent c.clear.ensures.said)
+    (cleared_reads lent _ (sym c.is_err.ensures.value ∙ c.if-is_err.true) c.read_records-reading.ensures.read c.read_records-reading.ensures.lent c.clear.ensures.said)
