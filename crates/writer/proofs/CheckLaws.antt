@@ -5,16 +5,18 @@ use mathlib.Core.Bool.{Bool, true, false, ◌||◌, true≢false}
 use mathlib.Core.List.{List}
 use Prim.Native.Nat.{ℕ, ◌≤◌, ◌<◌}
 use native.Mathlib.Omega.{arith}
-use borrow.Author.Tests.{ne_eqb, eqb-false}
+use borrow.Author.Tests.{eq-eqb, ne_eqb, eqb-false}
 use lib.ListN.{length, get_or, take}
 use lib.Seq.{length-take-le, get_or-take}
+use Rattle.std.specs.Prelude.{Option, Some, None}
 use Rattle.lists.proofs.Splits.{split_lt}
 use Rattle.lists.proofs.LeastLaws.{Least, least-is}
 use Rattle.region.specs.Lookup.{identifier}
 use Rattle.region.specs.declared.Identifier.{Identifier}
+use Rattle.region.specs.declared.Place.{Place}
 use Rattle.matrix.specs.Square.{most_regions}
 use Rattle.filing.specs.Said.{Said, naming}
-use Rattle.filing.specs.Places.{is_found}
+use Rattle.filing.specs.Places.{place_of, is_found}
 use Rattle.filing.proofs.PlaceLaws.{by_place, place_nothing, place_new}
 use Rattle.scene.specs.Different.{Different}
 use Rattle.writer.specs.Writing.{is_zero, is_repeated, first_bad}
@@ -24,6 +26,25 @@ use Rattle.writer.specs.Writing.{is_zero, is_repeated, first_bad}
 module _ (identifiers : List ℕ) (p : ℕ) where
   abbrev bad : Bool
   bad = is_zero identifiers p || is_repeated identifiers p
+
+  -- 0 is bad
+  pub zero_bad : (one : Identifier) → one.0 ≡ get_or identifiers p 0 → one.0 ≡ 0 → true ≡ bad
+  zero_bad one e z = rw (eq-eqb (get_or identifiers p 0) 0 (sym e ∙ z))
+
+  module _ (one : Identifier) (named : one.0 ≡ get_or identifiers p 0) (some : one.0 ≡ 0 → ⊥) (found : Option Place)
+      (finds : found ≡ place_of (naming (take p identifiers)) one) where
+    repeated_is : (is_found found) ≡ bad
+    repeated_is =
+        rw (ne_eqb (get_or identifiers p 0) 0 (λ z. some (named ∙ z)), finds)
+        (ap (λ (x : ℕ). is_found (place_of (naming (take p identifiers)) (identifier x))) named)
+
+    -- one that names an earlier place is a repeated one
+    pub found_bad : (q : Place) → found ≡ Some q → true ≡ bad
+    found_bad q e = sym (ap is_found e) ∙ repeated_is
+
+    -- and one that names none is good
+    pub new_good : found ≡ None → false ≡ bad
+    new_good e = sym (ap is_found e) ∙ repeated_is
 
 -- ---- none is bad
 

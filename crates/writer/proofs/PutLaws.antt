@@ -3,18 +3,42 @@ use mathlib.Core.Path.{◌≡◌, refl, ap, ◌∙◌}
 use mathlib.Core.List.{List, [], ◌∷◌, ◌++◌, append_assoc}
 use Prim.Native.Nat.{ℕ, suc, ◌+◌, ◌*◌, ◌≤◌, ◌<◌}
 use native.Mathlib.Omega.{arith}
-use lib.ListN.{length, get_or, set, take, length-append}
-use lib.Seq.{sets, length-take-le}
+use lib.ListN.{length, get_or, set, take, length-set, length-append}
+use lib.Seq.{sets, length-sets, length-take-le}
 use Rattle.relation.specs.Sets.{universal}
 use Rattle.region.specs.Lookup.{place}
 use Rattle.region.specs.Named.{identifier_at}
 use Rattle.matrix.specs.Cells.{row, column}
+use Rattle.lists.specs.BigEndian.{big_endian, number_put}
+use Rattle.lists.proofs.BigEndianLaws.{put_fits}
 use Rattle.scene.specs.Format.{end_kind, region_record, statement_record}
 use Rattle.writer.specs.Scene.{region_records, cell_record, statement_records, scene_of}
 use Rattle.writer.specs.Inner.{Put}
 use Rattle.writer.specs.Writable.{Sized}
 use Rattle.writer.proofs.SceneLaws.{length-regions, length-statements, length_scene, regions_more}
 use Rattle.writer.proofs.SceneLaws.{statements-same, statements_more, counted_more, counted_grows}
+
+-- ---- one record
+
+pub region_put : (buffer after : List ℕ) (at identifier : ℕ) → at + 5 ≤ length buffer
+    → after ≡ number_put (set buffer at 1) (at + 1) identifier → after ≡ sets buffer at (region_record identifier)
+region_put buffer after at identifier h e =
+    let next : at + 1 ≡ suc at = omega arith in
+    rw (e, put_fits (set buffer at 1) (at + 1) identifier (omega (arith, length-set buffer at 1)), next)
+
+length_number_put : (area : List ℕ) (at x : ℕ) → at + 4 ≤ length area → length (number_put area at x) ≡ length area
+length_number_put area at x h = rw (put_fits area at x h) (length-sets area at (big_endian x))
+
+pub statement_put : (buffer first second : List ℕ) (at a b set' : ℕ) → at + 10 ≤ length buffer
+    → first ≡ number_put (set buffer at 2) (at + 1) a → second ≡ number_put first (at + 5) b
+    → set second (at + 9) set' ≡ sets buffer at (statement_record a b set')
+statement_put buffer first second at a b set' h e f =
+    let long : length (set buffer at 2) ≡ length buffer = length-set buffer at 2 in
+    let kept : length first ≡ length buffer = rw e (length_number_put (set buffer at 2) (at + 1) a (omega arith) ∙ long) in
+    let one : at + 1 ≡ suc at = omega arith in
+    let five : at + 5 ≡ suc (suc (suc (suc (suc at)))) = omega arith in
+    let nine : at + 9 ≡ suc (suc (suc (suc (suc (suc (suc (suc (suc at)))))))) = omega arith in
+    rw (f, put_fits first (at + 5) b (omega arith), e, put_fits (set buffer at 2) (at + 1) a (omega arith), one, five, nine)
 
 -- ---- one record more
 
@@ -79,6 +103,17 @@ module _ (n : ℕ) (identifiers cells : List ℕ) (sized : Sized n identifiers c
         counted_grows cells (p + 1) (n * n) (omega (arith, sized.square.size)),
       )
 
+-- there is room for the statements from an offset on
+pub record Room (n : ℕ) (identifiers cells buffer : List ℕ) (at : ℕ) : Type 0 where
+  pub sized : Sized n identifiers cells
+  pub fits : at + length (statement_records (n * n) n identifiers cells) ≤ length buffer
+
+module _ (n : ℕ) (identifiers cells buffer : List ℕ) (start : ℕ) (room : Room n identifiers cells buffer start) (p : ℕ)
+    (inside : p < length cells) where
+  -- then for the record of a cell that is stated too, behind those before it
+  pub statement-room : (get_or cells p 0 ≡ universal → ⊥) → start + length (statement_records p n identifiers cells) + 10 ≤ length buffer
+  statement-room e = omega (arith, room.fits, statement_room n identifiers cells room.sized p inside e)
+
 -- ---- the whole scene
 
 module _ (n : ℕ) (identifiers cells : List ℕ) (sized : Sized n identifiers cells) where
@@ -100,3 +135,16 @@ module _ (n : ℕ) (identifiers cells : List ℕ) (sized : Sized n identifiers c
       let last : end ≡ 0 + length (R ++ S) = omega (arith, put.end, length-append R S) in
       put_behind buffer statements (set statements end end_kind) (R ++ S) (end_kind ∷ []) 0 end both last refl
       ∙ ap (sets buffer 0) (append_assoc R S (end_kind ∷ []))
+
+-- there is room for the scene
+pub record SceneRoom (n : ℕ) (identifiers cells buffer : List ℕ) : Type 0 where
+  pub sized : Sized n identifiers cells
+  pub fits : length (scene_of n identifiers cells) ≤ length buffer
+
+-- then for the regions, and for the statements with a byte behind them
+module _ (n : ℕ) (identifiers cells buffer : List ℕ) (room : SceneRoom n identifiers cells buffer) where
+  pub regions_fit : 5 * length identifiers ≤ length buffer
+  regions_fit = omega (arith, room.fits, length_scene n identifiers cells)
+
+  pub statements_fit : 5 * n + length (statement_records (n * n) n identifiers cells) < length buffer
+  statements_fit = omega (arith, room.fits, scene_parts n identifiers cells room.sized)

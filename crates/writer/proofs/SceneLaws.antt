@@ -60,6 +60,10 @@ module _ (n : ℕ) (identifiers cells : List ℕ) where
   unfolding statement_records
   statements_more p e = rw (add-one, ne_eqb (get_or cells p 0) universal e)
 
+pub counted_same : (cells : List ℕ) (p : ℕ) → get_or cells p 0 ≡ universal → stated_count (p + 1) cells ≡ stated_count p cells
+unfolding stated_count
+counted_same cells p e = rw (add-one, eq-eqb (get_or cells p 0) universal e) (omega arith)
+
 pub counted_more : (cells : List ℕ) (p : ℕ) → (get_or cells p 0 ≡ universal → ⊥) → stated_count (p + 1) cells ≡ stated_count p cells + 1
 unfolding stated_count
 counted_more cells p e = rw (add-one, ne_eqb (get_or cells p 0) universal e)

@@ -2,7 +2,7 @@
 use mathlib.Core.Path.{◌≡◌, refl, sym, ap, ◌∙◌}
 use mathlib.Core.Bool.{true, false}
 use mathlib.Core.List.{List}
-use Prim.Native.Nat.{ℕ, ◌*◌, ◌≤◌, ◌<◌}
+use Prim.Native.Nat.{ℕ, ◌+◌, ◌*◌, ◌≤◌, ◌<◌}
 use native.Mathlib.Nat.{zero-add}
 use native.Mathlib.Omega.{arith}
 use borrow.Author.Tests.{lt-ltb, le-ltb, eq-eqb, ne_eqb}
@@ -22,12 +22,13 @@ use Rattle.lists.specs.Laid.{laid}
 use Rattle.answer.specs.Answer.{Answer, refuses}
 use Rattle.answer.specs.Ending.{refused, stop}
 use Rattle.scene.specs.Format.{most_bytes}
-use Rattle.writer.specs.Scene.{scene_of}
+use Rattle.writer.specs.Scene.{scene_of, stated_count}
 use Rattle.writer.specs.Writing.{written, refused_with, refused_region, refused_cell, first_bad, checked, write_of}
 use Rattle.writer.specs.Numbers.{answer_of}
 use Rattle.writer.specs.Writes.{buffer_after, Writes}
 use Rattle.writer.specs.Writable.{Sized, Writable}
 use Rattle.writer.specs.declared.Unwritten.{Unwritten}
+use Rattle.writer.proofs.SceneLaws.{length_sized}
 
 -- what the first checks ask
 pub sized_by : (n : ℕ) (identifiers cells : List ℕ) → in_range n ≡ true → length identifiers ≡ n → length cells ≡ n * n → Sized n identifiers cells
@@ -35,14 +36,24 @@ sized_by n identifiers cells range regions size =
     let holds = range_holds n range in
     record { square = record { some = holds.0; few = holds.1; size = size }; regions = regions }
 
--- what the searches answer of lists that have the right lengths
+-- what the checks compute of lists that have the right lengths
+module _ (n : ℕ) (identifiers cells : List ℕ) (sized : Sized n identifiers cells) (r : ℕ) where
+  pub bad_found : r ≡ first_bad (length identifiers) identifiers → r ≡ first_bad n identifiers
+  bad_found e = e ∙ ap (λ (k : ℕ). first_bad k identifiers) sized.regions
+
+  pub empty-found : r ≡ first_empty (length cells) cells → r ≡ first_empty (n * n) cells
+  empty-found e = e ∙ ap (λ (k : ℕ). first_empty k cells) sized.square.size
+
+  pub length_found : r ≡ 5 * n + 10 * stated_count (length cells) cells + 1 → r ≡ length (scene_of n identifiers cells)
+  length_found e = e ∙ sym (length_sized n identifiers cells sized)
+
+-- and what the searches answer of them
 module _ (n : ℕ) (identifiers cells : List ℕ) (sized : Sized n identifiers cells) where
-  pub bad_found : {p : ℕ} → Some p ≡ found_below (length identifiers) (first_bad (length identifiers) identifiers)
+  pub bad_at : {p : ℕ} → Some p ≡ found_below (length identifiers) (first_bad (length identifiers) identifiers)
       → (p ≡ first_bad n identifiers) × (p < n)
-  bad_found e =
+  bad_at e =
       let h = found_some (length identifiers) (first_bad (length identifiers) identifiers) e in
-      let same = ap (λ (k : ℕ). first_bad k identifiers) sized.regions in
-      (h.0 ∙ same, omega (arith, h.0, h.1, sized.regions))
+      (bad_found n identifiers cells sized _ h.0, omega (arith, h.0, h.1, sized.regions))
 
   pub none_bad : None ≡ found_below (length identifiers) (first_bad (length identifiers) identifiers) → n ≤ first_bad n identifiers
   none_bad e = rw sized.regions at (found_none (length identifiers) (first_bad (length identifiers) identifiers) e)
@@ -50,8 +61,7 @@ module _ (n : ℕ) (identifiers cells : List ℕ) (sized : Sized n identifiers c
   pub empty_at : {p : ℕ} → Some p ≡ position (λ cell. eqb cell 0) cells → (p ≡ first_empty (n * n) cells) × (p < n * n)
   empty_at e =
       let h = empty_found cells e in
-      let same = ap (λ (k : ℕ). first_empty k cells) sized.square.size in
-      (h.0 ∙ same, omega (arith, h.0, h.1, sized.square.size))
+      (empty-found n identifiers cells sized _ h.0, omega (arith, h.0, h.1, sized.square.size))
 
   pub none_empty : None ≡ position (λ cell. eqb cell 0) cells → n * n ≤ first_empty (n * n) cells
   none_empty e = rw sized.square.size at (none_found cells e)

@@ -7,7 +7,7 @@ use Rattle.matrix.specs.Cells.{row}
 use Rattle.matrix.proofs.CellLaws.{range_holds}
 use Rattle.writer.specs.Writable.{Sized, Writable}
 use Rattle.writer.proofs.SceneLaws.{square-small}
-use Rattle.writer.proofs.WriteLaws.{sized_by, bad_found, none_bad, empty_at, none_empty, is-written, is_refused, succeeds}
+use Rattle.writer.proofs.WriteLaws.{sized_by, bad_at, none_bad, empty_at, none_empty, is-written, is_refused, succeeds}
 use Rattle.writer.proofs.WriteLaws.{out_of_range, other-regions, other-cells, zero_refused, twice_refused, empty_refused, long_refused, no_room}
 use Rattle.writer.proofs.write.Goals as goal
 use Rattle.writer.proofs.write.Goals.{then-identifiers-n-via-then-identifiers-n, then-identifiers-n-via-else-identifiers-n+then-cells-n}
@@ -35,7 +35,7 @@ pub returns-then-identifier_at-eq0 : goal.returns-then-identifier_at-eq0
 returns-then-identifier_at-eq0 c =
     let s : Sized c.args.n c.args.identifiers.now c.args.cells.now =
     sized_by _ _ _ (sym c.in_range.ensures ∙ c.if-not-in_range.false) c.if-identifiers-n.false c.if-cells-n.false in
-    let bad = bad_found _ _ _ s (sym c.in-Some.is ∙ c.first_bad.ensures) in
+    let bad = bad_at _ _ _ s (sym c.in-Some.is ∙ c.first_bad.ensures) in
     is_refused c.args.n _ _ _ _ _
     (zero_refused _ _ _ _ s _ bad.0 bad.1 (sym c.identifier_at.ensures ∙ c.if-identifier_at-eq0.true)) refl
 
@@ -43,7 +43,7 @@ pub returns-in-Some : goal.returns-in-Some
 returns-in-Some c =
     let s : Sized c.args.n c.args.identifiers.now c.args.cells.now =
     sized_by _ _ _ (sym c.in_range.ensures ∙ c.if-not-in_range.false) c.if-identifiers-n.false c.if-cells-n.false in
-    let bad = bad_found _ _ _ s (sym c.in-Some.is ∙ c.first_bad.ensures) in
+    let bad = bad_at _ _ _ s (sym c.in-Some.is ∙ c.first_bad.ensures) in
     is_refused c.args.n _ _ _ _ _
     (twice_refused _ _ _ _ s _ bad.0 bad.1 (λ z. c.if-identifier_at-eq0.false (c.identifier_at.ensures ∙ z))) refl
 
