@@ -8,6 +8,7 @@ pub mod MarkLaws
 pub mod Lending
 pub mod Padded
 pub mod Packing
+pub mod PackingFilled
 pub mod Marking
 pub mod Held
 -- no second answer meets a contract

@@ -4,7 +4,7 @@ use Rattle.std.proofs.lemmas.List.{ext_get_or, get_or_default, get_or-set_same, 
 use Rattle.std.proofs.lemmas.List.FromFn.{length-map-range_with_len, get_or-map-range_with_len}
 use lib.ListN.{length-set}
 use native.Mathlib.Nat.{le_trans, mul-le-mul, mul-le-mul_left}
-use borrow.Author.Tests.{eq-eqb, le-leb}
+use borrow.Author.Tests.{eq-eqb, ne_eqb, le-leb, lt-leb}
 use Rattle.lists.proofs.Splits.{split_lt, split_eq}
 use Rattle.matrix.specs.Square.{most_regions}
 use Rattle.matrix.specs.Cells.{row, column, grid}
@@ -30,7 +30,7 @@ pub among-rows : (n at : ℕ) → n ≤ most_regions → at < n * n → AmongRow
 among-rows n at h l = record { row-few = le_trans (row_lt n at l) h; column-few = le_trans (column_lt n at l) h }
 
 -- the cell at a place in rows of n comes from that place or a later one
-source_le : (n at : ℕ) → n ≤ most_regions → at ≤ row n at * most_regions + column n at
+pub source_le : (n at : ℕ) → n ≤ most_regions → at ≤ row n at * most_regions + column n at
 source_le n at h = omega (arith, place-back n at, mul-le-mul_left (row n at) h)
 
 module _ {A : Type 0} (padding : A) (n : ℕ) (entries : List A) where
@@ -40,6 +40,16 @@ module _ {A : Type 0} (padding : A) (n : ℕ) (entries : List A) where
   in_rows_at : (at : ℕ) → at < n * n → get_or (in_rows padding n entries) at padding ≡ get_or entries (row n at * most_regions + column n at) padding
   in_rows_at at h =
       get_or-map-range_with_len (λ p. get_or entries (row n p * most_regions + column n p) padding) 0 (n * n) at at padding h (omega arith)
+
+-- entries that are not such rows are left
+module _ {A : Type 0} (padding : A) (n : ℕ) (entries : List A) where
+  pub other-cells : (length entries ≡ lent_cells → ⊥) → entries ≡ packed padding n entries
+  unfolding packed
+  other-cells d = rw (ne_eqb (length entries) lent_cells d) refl
+
+  pub too_many : length entries ≡ lent_cells → most_regions < n → entries ≡ packed padding n entries
+  unfolding packed
+  too_many e h = rw (eq-eqb (length entries) lent_cells e, lt-leb n most_regions h) refl
 
 module _ {A : Type 0} (padding : A) (n : ℕ) (entries : List A) (rows : Rows entries n) where
   -- rows of 64 become rows of n
