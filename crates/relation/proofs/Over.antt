@@ -158,6 +158,16 @@ upto_next s f n = rw add-one (go (has s n))
     go true = refl
     go false = or_zero_r _
 
+-- n is a member
+pub upto_taken : (s : ℕ) (f : ℕ → ℕ) (n union : ℕ) → union ≡ upto s f n → has s n ≡ true → unite union (f n) ≡ upto s f (n + 1)
+unfolding upto union_of
+upto_taken s f n union e t = rw (add-one, e, t)
+
+-- n is none
+pub upto_left : (s : ℕ) (f : ℕ → ℕ) (n union : ℕ) → union ≡ upto s f n → has s n ≡ false → union ≡ upto s f (n + 1)
+unfolding upto union_of
+upto_left s f n union e t = rw (add-one, e, t, or_zero_r)
+
 pub upto_all : (s : ℕ) (f : ℕ → ℕ) (n : ℕ) → n ≡ 8 → upto s f n ≡ over s f
 unfolding upto over
 upto_all s f n e = ap (upto s f) e
