@@ -1,12 +1,12 @@
 -- Numbers and their bytes, four or two: there and back, how long they are, and what putting them into an area leaves.
-use mathlib.Core.Path.{◌≡◌, ◌∙◌}
+use mathlib.Core.Path.{◌≡◌, sym, ◌∙◌}
 use mathlib.Core.List.{List, [], ◌∷◌, ◌++◌, append_assoc}
 use Prim.Native.Nat.{ℕ, ◌+◌, ◌*◌, ◌/◌, ◌%◌, ◌≤◌, ◌<◌}
 use native.Mathlib.Nat.{div-add-mod'}
 use native.Mathlib.Numerals.{unary_clauses}
 use native.Mathlib.Omega.{arith}
-use borrow.Author.Tests.{le-leb}
-use lib.ListN.{length, get_or, take, drop, length-append}
+use borrow.Author.Tests.{le-leb, lt-leb}
+use lib.ListN.{length, get_or, take, drop, length-append, get_or-eq_default}
 use lib.Seq.{sets, sets-eq, drop-drop, take_at, length-take-le, length-sets, get_or-append-add}
 use Rattle.lists.specs.BigEndian.{AllBytes, number_at, big_endian, bytes_put, number_put, two_bytes, two_bytes_put}
 
@@ -51,6 +51,21 @@ bytes_of_number s at b =
 pub number_small : (s : List ℕ) (at : ℕ) → AllBytes s → number_at s at < 4294967296
 number_small s at b = omega (arith, b.small at, b.small (at + 1), b.small (at + 2), b.small (at + 3))
 
+-- the byte so many bytes behind an offset
+pub record Byte (bytes : List ℕ) (at behind byte : ℕ) : Type 0 where
+  pub value : byte ≡ get_or bytes (at + behind) 0
+  pub small : byte < 256
+
+-- past the end a byte counts as 0
+pub byte_past : (bytes : List ℕ) (at behind : ℕ) → length bytes ≤ at + behind → Byte bytes at behind 0
+byte_past bytes at behind h = record { value = sym (get_or-eq_default bytes 0 h); small = omega arith }
+
+-- four bytes, each behind the other, make the number
+pub number_of_four : (s : List ℕ) (at a b c d : ℕ) → Byte s at 0 a → Byte s at 1 b → Byte s at 2 c → Byte s at 3 d
+    → a * 16777216 + b * 65536 + c * 256 + d ≡ number_at s at
+number_of_four s at a b c d f g h i =
+    let here : a ≡ get_or s at 0 = simp unary_clauses at f.value in rw (here, g.value, h.value, i.value)
+
 -- bytes are put where they fit
 pub bytes_fit : (area bytes : List ℕ) (at : ℕ) → at + length bytes ≤ length area → bytes_put area at bytes ≡ sets area at bytes
 bytes_fit area bytes at h = rw (le-leb (at + length bytes) (length area) h)
@@ -63,6 +78,10 @@ bytes_between area bytes at count h e = rw (bytes_fit area bytes at h, sets-eq b
 -- a number is put where its four bytes fit
 pub put_fits : (area : List ℕ) (at x : ℕ) → at + 4 ≤ length area → number_put area at x ≡ sets area at (big_endian x)
 put_fits area at x h = rw (le-leb (at + 4) (length area) h)
+
+-- and where they do not, nothing is written
+pub put_no_room : (area : List ℕ) (at x : ℕ) → length area < at + 4 → number_put area at x ≡ area
+put_no_room area at x h = rw (lt-leb (at + 4) (length area) h)
 
 -- bytes put right behind a front make it longer
 pub bytes_behind : (area area' front bytes : List ℕ) (at : ℕ) → at + length bytes ≤ length area → take at area ≡ front

@@ -1,9 +1,9 @@
 -- A loop that fills an area from its front with what a list holds: its turn and its end.
-use mathlib.Core.Path.{◌≡◌, refl, ◌∙◌}
+use mathlib.Core.Path.{◌≡◌, refl, sym, ◌∙◌}
 use mathlib.Core.List.{List}
 use Prim.Native.Nat.{ℕ, ◌+◌, ◌≤◌, ◌<◌}
 use native.Mathlib.Omega.{arith}
-use lib.ListN.{length, get_or, set}
+use lib.ListN.{length, get_or, set, replicate, length-replicate, get_or-replicate}
 use Rattle.lists.specs.Laid.{laid}
 use Rattle.lists.proofs.LaidLaws.{laid_none, laid_more, laid_all, length-laid}
 
@@ -28,3 +28,13 @@ module _ (filled before area : List ℕ) (at : ℕ) (same : length filled ≡ le
   filling_ends h =
       let all : at ≡ length before = omega (arith, w.long, w.within) in
       w.so_far ∙ laid_all at filled before (omega arith) (omega arith)
+
+-- with one and the same entry
+module _ (x : ℕ) (before area : List ℕ) (at : ℕ) (w : Filling (replicate (length before) x) before area at) where
+  pub same_entry_more : at < length area → Filling (replicate (length before) x) before (set area at x) (at + 1)
+  same_entry_more h =
+      filling_more (replicate (length before) x) before area at (length-replicate {A = ℕ} (length before) x) w x h
+      (sym (get_or-replicate {A = ℕ} (length before) at x 0 (omega (arith, w.long))))
+
+  pub same_entry_ends : length area ≤ at → area ≡ replicate (length before) x
+  same_entry_ends h = filling_ends (replicate (length before) x) before area at (length-replicate {A = ℕ} (length before) x) w h
