@@ -1,6 +1,7 @@
 -- how a call ends
 pub mod Stops
--- the answer area of an export
+-- the 20 bytes
+pub mod AnswerBytes
 pub mod Exporting
 -- no second answer meets a contract
 pub mod Unique
