@@ -60,6 +60,23 @@ pub has_cond : (b : Bool) (a x : ℕ) → has (cond b a empty) x ≡ b && has a 
 has_cond true a x = refl
 has_cond false a x = empty-has x
 
+-- ---- a union under a test, with what fails it left out
+
+unfoldable pub union_where : ℕ → (ℕ → Bool) → (ℕ → ℕ) → ℕ
+union_where zero t f = empty
+union_where (suc n) t f = let rest = union_where n t f in cond (t n) (unite rest (f n)) rest
+
+left_out : (b : Bool) (a x : ℕ) → unite a (cond b x empty) ≡ cond b (unite a x) a
+left_out true a x = refl
+left_out false a x = or_zero_r a
+
+pub union_where_lem : (n : ℕ) (t : ℕ → Bool) (f : ℕ → ℕ) → union_of n (λ i. cond (t i) (f i) empty) ≡ union_where n t f
+unfolding union_of union_where
+union_where_lem zero t f = refl
+union_where_lem (suc n) t f =
+    left_out (t n) (union_of n (λ i. cond (t i) (f i) empty)) (f n)
+    ∙ ap (λ (u : ℕ). cond (t n) (unite u (f n)) u) (union_where_lem n t f)
+
 -- ---- a union of the words that a row of entries picks
 
 unite_assoc : (a b c : ℕ) → unite (unite a b) c ≡ unite a (unite b c)
