@@ -1,11 +1,13 @@
--- The digits of a number: from the last one on, how many there are, that they say the number, and that the library prints them.
-use mathlib.Core.Path.{◌≡◌, sym, ap, ◌∙◌, subst}
-use mathlib.Core.List.{List, [], ◌∷◌, ◌++◌}
+-- The digits of a number: from the last one on, how many there are, that they say the number, that the library prints them, and a loop that
+-- finds them.
+use mathlib.Core.Path.{◌≡◌, refl, sym, ap, ◌∙◌, subst}
+use mathlib.Core.List.{List, [], ◌∷◌, ◌++◌, append_assoc, append-nil}
 use Prim.Native.Nat.{ℕ, zero, suc, ◌+◌, ◌-◌, ◌*◌, ◌/◌, ◌%◌, ◌^◌, ◌≤◌, ◌<◌}
 use native.Mathlib.Nat.{pow-suc, div-lt_iff_lt-mul, mod-eq_of_lt, div-add-mod'}
 use native.Mathlib.Omega.{arith}
 use borrow.Author.Tests.{lt-ltb, le-ltb}
-use lib.ListN.{length, length-append}
+use lib.ListN.{length, take, drop, set, replicate, length-append, length-set, length-drop}
+use lib.Seq.{set_split, drop_at, take_all, length-take-le}
 use Rattle.std.specs.Fmt.{decimal as printed}
 use Rattle.std.proofs.lemmas.Fmt.{decimal_by_steps}
 use Rattle.lists.proofs.Splits.{split_lt}
@@ -87,3 +89,55 @@ more_printed x digits h before (suc more) few =
 pub decimal_printed : (x : ℕ) → x < 2 ^ 64 → printed x ≡ decimal x
 unfolding AsPrinted
 decimal_printed x h = decimal_by_steps AsPrinted one_printed more_printed x h 19 (omega arith)
+
+-- ---- how a loop finds them
+
+-- `left` is still to be put before the digits behind place `first` of an area of 20
+pub record Found (number : ℕ) (digits : List ℕ) (first left : ℕ) : Type 0 where
+  pub long : length digits ≡ 20
+  pub place : first < 20
+  pub few : left < 10 ^ suc first
+  pub behind : decimal number ≡ decimal_up_to first left ++ drop (suc first) digits
+
+pub found_none : (number : ℕ) → number < 2 ^ 64 → Found number (replicate 20 0) 19 number
+found_none number h = record {
+  long = refl;
+  place = omega arith;
+  few = omega arith;
+  behind = sym (append-nil (decimal number));
+}
+
+-- the digits from a place on, once one is stored there
+drop-set : (digits : List ℕ) (first d : ℕ) → first < length digits → drop first (set digits first d) ≡ d ∷ drop (suc first) digits
+drop-set digits first d h =
+    rw (set_split digits first d h)
+    (drop_at (take first digits) (d ∷ drop (suc first) digits) first (length-take-le first digits (omega arith)))
+
+-- a digit is stored only where there is room for another
+pub found-room : (first : ℕ) {number : ℕ} {digits : List ℕ} {left : ℕ} → Found number digits first left → 10 ≤ left → 1 ≤ first
+found-room zero {number} {digits} {left} f l = let h : left < 10 ^ 1 = f.few in absurd (omega arith)
+found-room (suc first) {number} {digits} {left} f l = omega arith
+
+pub found_more : (first : ℕ) {number : ℕ} {digits : List ℕ} {left : ℕ} → Found number digits first left → 10 ≤ left
+    → Found number (set digits first (48 + left % 10)) (first - 1) (left / 10)
+found_more zero {number} {digits} {left} f l = let h : left < 10 ^ 1 = f.few in absurd (omega arith)
+found_more (suc first) {number} {digits} {left} f l =
+    let e : suc first - 1 ≡ first = omega arith in
+    rw e
+    (record {
+      long = length-set digits (suc first) (48 + left % 10) ∙ f.long;
+      place = omega (arith, f.place);
+      few = tenth (suc first) left f.few;
+      behind = f.behind
+          ∙ rw (decimal_more first left l, drop-set digits (suc first) (48 + left % 10) (omega (arith, f.long, f.place)))
+          (append_assoc (decimal_up_to first (left / 10)) (digit (left % 10) ∷ []) (drop (suc (suc first)) digits));
+    })
+
+-- the last digit to be found is the first; what stands from its place to the end is the number
+pub found_all : {number : ℕ} {digits : List ℕ} {first left : ℕ} → Found number digits first left → left < 10
+    → decimal number ≡ take (20 - first) (drop first (set digits first (48 + left)))
+found_all {number} {digits} {first} {left} f l =
+    let stored : List ℕ = set digits first (48 + left) in
+    f.behind
+    ∙ rw (decimal_one first left l) (sym (drop-set digits first (48 + left) (omega (arith, f.long, f.place))))
+    ∙ sym (take_all (20 - first) (drop first stored) (omega (arith, length-drop first stored, length-set digits first (48 + left), f.long)))

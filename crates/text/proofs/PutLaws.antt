@@ -4,10 +4,11 @@ use mathlib.Core.Bool.{true, false}
 use mathlib.Core.List.{List, [], ◌++◌, append-nil}
 use Prim.Native.Nat.{ℕ, ◌+◌, ◌-◌, ◌≤◌, ◌<◌}
 use native.Mathlib.Nat.{add-zero}
+use native.Mathlib.Numerals.{add-one}
 use native.Mathlib.Omega.{arith}
 use borrow.Author.Tests.{le-leb, lt-leb}
-use lib.ListN.{length, take, length-append, take-append-drop}
-use lib.Seq.{paste, take-length}
+use lib.ListN.{length, take, set, get_or, length-append, length-set, take-append-drop}
+use lib.Seq.{paste, paste-zero, paste-suc, take-length}
 use borrow.Rule.Slice.PartMut.{put_mid}
 use Rattle.std.proofs.lemmas.Slice.{put_mid-paste}
 use Rattle.std.proofs.lemmas.List.Edits.{length-paste, paste-paste}
@@ -39,13 +40,38 @@ put_copied text copied buffer at end e f h =
     put_fits text buffer at (put_mid at (end - at) buffer copied) end (omega arith)
     (put_mid-paste at (end - at) buffer copied text (length text) e (omega arith) refl ∙ sym (overwritten_is buffer at text)) f
 
+-- the first `done` bytes of a text have been copied into the buffer from a place on
+pub record Copied (buffer₀ : List ℕ) (at : ℕ) (text : List ℕ) (done : ℕ) (buffer : List ℕ) : Type 0 where
+  pub within : done ≤ length text
+  pub long : length buffer ≡ length buffer₀
+  pub copied : buffer ≡ paste buffer₀ at text done
+
+pub copy_none : (buffer : List ℕ) (at : ℕ) (text : List ℕ) → Copied buffer at text 0 buffer
+copy_none buffer at text = record { within = omega arith; long = refl; copied = paste-zero buffer at text }
+
+pub copy_more : {buffer₀ : List ℕ} {at : ℕ} {text : List ℕ} {done : ℕ} {buffer : List ℕ} → Copied buffer₀ at text done buffer
+    → at + done < length buffer₀ → done < length text
+    → Copied buffer₀ at text (done + 1) (set buffer (at + done) (get_or text done 0))
+copy_more {buffer₀} {at} {text} {done} {buffer} c h l = record {
+  within = omega arith;
+  long = length-set buffer (at + done) (get_or text done 0) ∙ c.long;
+  copied = rw (c.copied, add-one done) (paste-suc buffer₀ at text done 0 h l);
+}
+
+pub copy_whole : {buffer₀ : List ℕ} {at : ℕ} {text : List ℕ} {done : ℕ} {buffer : List ℕ} → Copied buffer₀ at text done buffer
+    → at + length text ≤ length buffer₀ → length text ≤ done → Puts text buffer₀ at buffer (at + done)
+unfolding overwritten
+copy_whole {buffer₀} {at} {text} {done} {buffer} c h l =
+    let e : done ≡ length text = omega (arith, c.within) in
+    put_fits text buffer₀ at buffer (at + done) h (rw (c.copied, e, take-length text)) (omega arith)
+
 -- ---- one text behind the other
 
 pub length-overwritten : (buffer : List ℕ) (at : ℕ) (text : List ℕ) → at + length text ≤ length buffer
     → length (overwritten buffer at text) ≡ length buffer
 length-overwritten buffer at text h = ap length (overwritten_is buffer at text) ∙ length-paste buffer at text (length text) h (omega arith)
 
-overwritten_twice : (buffer : List ℕ) (at : ℕ) (text more : List ℕ) → at + length text + length more ≤ length buffer
+pub overwritten_twice : (buffer : List ℕ) (at : ℕ) (text more : List ℕ) → at + length text + length more ≤ length buffer
     → overwritten (overwritten buffer at text) (at + length text) more ≡ overwritten buffer at (text ++ more)
 overwritten_twice buffer at text more h =
     overwritten_is (overwritten buffer at text) (at + length text) more
