@@ -1,19 +1,23 @@
--- A line that is put field by field is the line, and the lines of pairs row by row are those of all cells.
+-- A line that is put field by field is the line, and the lines of pairs cell by cell, or row by row, are those of all cells.
 use mathlib.Core.Path.{◌≡◌, sym, ap, ◌∙◌, subst}
 use mathlib.Core.List.{List, [], ◌∷◌, ◌++◌, append_assoc, append-nil}
 use Prim.Native.Nat.{ℕ, zero, suc, ◌+◌, ◌-◌, ◌*◌, ◌≤◌, ◌<◌}
 use native.Mathlib.Nat.{add-zero, add-suc, add-mul}
+use native.Mathlib.Numerals.{add-one}
 use native.Mathlib.Omega.{arith}
 use mathlib.Core.Bool.{cond}
 use lib.Dec.{ltb}
 use borrow.Author.Tests.{lt-ltb, le-ltb}
-use Rattle.matrix.proofs.CellLaws.{place_div, place-mod}
+use lib.ListN.{length, get_or}
+use Rattle.matrix.specs.Cells.{cell, row, column}
+use Rattle.matrix.proofs.CellLaws.{place_div, place-mod, place-back}
 use Rattle.text.specs.declared.Page.{Page}
 use Rattle.text.specs.Line.{line}
-use Rattle.text.specs.Put.{PutsOn, AddsOn}
+use Rattle.text.specs.Put.{Adds, PutsOn, AddsOn}
 use Rattle.text.proofs.PutLaws.{puts_adds, adds-adds, adds_none}
+use Rattle.text.proofs.Adding as of_lists
 use Rattle.report_text.specs.declared.lines.Pairs.{Pairs}
-use Rattle.report_text.specs.Report.{pair_lines}
+use Rattle.report_text.specs.Report.{sets_line, cell_line, pair_lines}
 use Rattle.report_text.specs.Inner.{line_of, row_lines, lines_below}
 
 -- what is put is put under any name
@@ -45,7 +49,44 @@ pub line_begin : {a b : List ℕ} {rest : List (List ℕ)} {p₀ p₁ p₂ : Pag
 unfolding line
 line_begin p q = adds-adds (puts_adds p) q.adds
 
--- ---- the lines of pairs
+-- ---- the lines of pairs, cell by cell, in any buffer from an offset on
+
+module _ (n : ℕ) (identifiers arcs network marks : List ℕ) (p : ℕ) where
+  -- a cell above the diagonal has its pair's line
+  pub cell-adds : {b b' : List ℕ} {at next : ℕ} (first second : ℕ) → row n p < column n p → first ≡ get_or identifiers (row n p) 0
+      → second ≡ get_or identifiers (column n p) 0
+      → Adds (sets_line first second (get_or arcs p 0) (get_or network p 0) (get_or marks p 0) (cell n marks (column n p) (row n p))) b at b' next
+      → Adds (cell_line n identifiers arcs network marks p) b at b' next
+  cell-adds first second h e f a =
+      rw (lt-ltb (row n p) (column n p) h, place-back n p, ← e, ← f) a
+
+  -- and any other has none
+  pub cell_adds_none : (b : List ℕ) (at : ℕ) → column n p ≤ row n p → Adds (cell_line n identifiers arcs network marks p) b at b at
+  cell_adds_none b at h = rw (le-ltb (row n p) (column n p) h) (of_lists.adds_none b at)
+
+  -- the lines of one cell more
+  pub pairs_add_cell : {b₀ b b' : List ℕ} {at₀ at next : ℕ} → Adds (pair_lines p n identifiers arcs network marks) b₀ at₀ b at
+      → Adds (cell_line n identifiers arcs network marks p) b at b' next → Adds (pair_lines (p + 1) n identifiers arcs network marks) b₀ at₀ b' next
+  unfolding pair_lines
+  pairs_add_cell a c = rw (add-one p) (of_lists.adds-adds a c)
+
+pub pairs_add_none : (n : ℕ) (identifiers arcs network marks b : List ℕ) (at : ℕ) → Adds (pair_lines 0 n identifiers arcs network marks) b at b at
+unfolding pair_lines
+pairs_add_none n identifiers arcs network marks b at = of_lists.adds_none b at
+
+-- the lines of the first p cells are put
+pub record Lines (n : ℕ) (identifiers arcs network marks b₀ : List ℕ) (at₀ p : ℕ) (b : List ℕ) (at : ℕ) : Type 0 where
+  pub within : p ≤ n * n
+  pub long : length b ≡ length b₀
+  pub lines : Adds (pair_lines p n identifiers arcs network marks) b₀ at₀ b at
+
+pub pairs_all : {n : ℕ} {identifiers arcs network marks b₀ : List ℕ} {at₀ p : ℕ} {b : List ℕ} {at : ℕ}
+    → Lines n identifiers arcs network marks b₀ at₀ p b at → n * n ≤ p → Adds (pair_lines (n * n) n identifiers arcs network marks) b₀ at₀ b at
+pairs_all {n} {identifiers} {arcs} {network} {marks} {b₀} {at₀} {p} {b} {at} l h =
+    let e : p ≡ n * n = omega (arith, l.within) in
+    subst (λ (x : ℕ). Adds (pair_lines x n identifiers arcs network marks) b₀ at₀ b at) e l.lines
+
+-- ---- the lines of pairs, row by row
 
 module _ (p : Pairs) (i : ℕ) where
   abbrev n : ℕ

@@ -2,7 +2,7 @@
 use mathlib.Core.Path.{◌≡◌, refl, sym, ap, ◌∙◌, subst}
 use mathlib.Core.List.{List, ◌++◌}
 use Prim.Native.Nat.{ℕ, zero, suc, ◌+◌, ◌*◌, ◌≤◌}
-use native.Mathlib.Nat.{zero-add}
+use native.Mathlib.Nat.{zero-add, mul-le-mul}
 use native.Mathlib.Omega.{arith}
 use lib.ListN.{length, get_or, take, drop, replicate, length-replicate, length-append, length-take}
 use lib.Seq.{take_all}
@@ -12,7 +12,9 @@ use Rattle.answer.specs.Answer.{Answer}
 use Rattle.answer.specs.Told.{told}
 use Rattle.answer.specs.declared.Numbers.{Numbers}
 use Rattle.answer.specs.Ending.{Ending, accepted, refused}
+use Rattle.matrix.specs.Square.{Square}
 use Rattle.matrix.specs.Cells.{grid, row, column}
+use Rattle.matrix.proofs.CellLaws.{length-grid}
 use Rattle.refinement.specs.Prepare.{prepared}
 use Rattle.refinement.specs.Refine.{refine}
 use Rattle.filing.specs.Stated.{stated_cell}
@@ -86,6 +88,26 @@ pub accepted_read : {scene identifiers cells marks : List ℕ} {reading : Result
     → Reads scene blank (holding identifiers cells marks) reading → reading ≡ Ok n → AcceptedScene scene identifiers cells marks n
 accepted_read {scene} {identifiers} {cells} {marks} r e = accepted-leaves (subst (Reads scene blank (holding identifiers cells marks)) e r)
 
+-- the cells in front are the stated ones
+module _ {scene identifiers cells marks : List ℕ} {n : ℕ} (a : AcceptedScene scene identifiers cells marks n) where
+  pub cells-few : n * n ≤ 4096
+  cells-few = mul-le-mul a.few a.few
+
+  pub stated_front : Square n (take (n * n) cells)
+  stated_front = record {
+    some = a.some;
+    few = a.few;
+    size = ap length a.cells_front ∙ length-grid n (stated_cell starting_cell a.said.statements);
+  }
+
+  -- and so are their marks
+  pub marks_front : Square n (take (n * n) marks)
+  marks_front = record {
+    some = a.some;
+    few = a.few;
+    size = ap length a.marks_front ∙ length-grid n (mark_of starting_cell a.said.statements);
+  }
+
 -- ---- identifiers and the zeros behind them
 
 module _ (n : ℕ) (one other stated marks : List ℕ) (same : (k : ℕ) → get_or one k 0 ≡ get_or other k 0) where
@@ -94,7 +116,7 @@ module _ (n : ℕ) (one other stated marks : List ℕ) (same : (k : ℕ) → get
   same_pairs arcs network zero = refl
   same_pairs arcs network (suc count) = rw (same_pairs arcs network count, same (row n count), same (column n count))
 
-  same_report : (ending : Ending (List ℕ)) → refined_report n one stated marks ending ≡ refined_report n other stated marks ending
+  pub same_report : (ending : Ending (List ℕ)) → refined_report n one stated marks ending ≡ refined_report n other stated marks ending
   same_report (accepted network count) = rw (same_pairs (prepared n stated) network (n * n))
   same_report (refused x) = rw (same x.first, same x.second, same x.third)
 

@@ -43,7 +43,7 @@ use Rattle.report_text.proofs.LineLaws.{renamed}
 use Rattle.report_text.proofs.Short.{refusal-short, accepted_report_short}
 use Rattle.report_text.proofs.Verdicts.{HandedBack, handed-back, refused_report, contradicted}
 
-answer-short : (identifiers : List ℕ) (a : Answer) → length (answer_line identifiers a) ≤ 131072
+pub answer-short : (identifiers : List ℕ) (a : Answer) → length (answer_line identifiers a) ≤ 131072
 answer-short identifiers a =
     let number : ℕ = a.number in
     omega (
@@ -52,14 +52,14 @@ answer-short identifiers a =
     )
 
 -- the two areas of the call
-abbrev area : List ℕ
+abbrev pub area : List ℕ
 area = replicate 4096 0
 
 pub stated_so : (s : Stated) → Square s.n s.cells.now
 stated_so s = record { some = s.some; few = s.few; size = s.cells_square }
 
 -- which are long enough
-lent_range : {n : ℕ} {stated : List ℕ} → Square n stated → InRange n stated (length area) (length area)
+pub lent_range : {n : ℕ} {stated : List ℕ} → Square n stated → InRange n stated (length area) (length area)
 lent_range {n} s =
     let long : n * n ≤ length area = omega (arith, length-replicate {A = ℕ} 4096 0, mul-le-mul s.few s.few) in
     record { square = s; first-long = long; second-long = long }
@@ -97,7 +97,7 @@ module _ (s : Stated) {first' second' : List ℕ} {verdict : Verdict} (v : Refin
       }
 
 -- every cell of a network is a byte, and so is what counts past its end
-small-sets : {n : ℕ} {stated : List ℕ} {rounds : ℕ} {network : List ℕ} → HandedBack n stated rounds network → (k : ℕ) → get_or network k 0 < 256
+pub small-sets : {n : ℕ} {stated : List ℕ} {rounds : ℕ} {network : List ℕ} → HandedBack n stated rounds network → (k : ℕ) → get_or network k 0 < 256
 small-sets {n} {network = network} w k =
     split_lt k (n * n) (λ h. by_cell n (λ (p : ℕ). get_or network p 0 < 256) (network-bytes w.largest.network).byte k h)
     (λ h. rw (get_or-eq_default network 0 {n = k} (omega (arith, w.largest.network.size))) (omega arith))

@@ -1,5 +1,5 @@
 -- What a verdict tells of the refinement: an acceptance hands its network back, and any other verdict is the refusal.
-use mathlib.Core.Path.{◌≡◌, sym, ap, ap₂, ◌∙◌}
+use mathlib.Core.Path.{◌≡◌, refl, sym, ap, ap₂, ◌∙◌}
 use mathlib.Core.List.{List}
 use Prim.Native.Nat.{ℕ}
 use native.Mathlib.Omega.{arith}
@@ -11,6 +11,7 @@ use Rattle.refinement.specs.InRange.{InRange}
 use Rattle.refinement.specs.Network.{Largest}
 use Rattle.refinement.specs.Refine.{refine}
 use Rattle.refinement.proofs.Limits.{refined_in_range}
+use Rattle.refinement.specs.declared.Contradiction.{Contradiction}
 use Rattle.refinement.specs.declared.Contradiction.TheVariants.{Region, Pair, Triple}
 use Rattle.network.specs.declared.Accepted.{Accepted}
 use Rattle.network.specs.declared.Unrefined.{Unrefined}
@@ -56,7 +57,14 @@ module _ {n : ℕ} {stated first second first' second' : List ℕ} {verdict : Ve
       of_ending (accepted network count) q = absurd (z (ap (λ (x : Answer). x.number) q))
       of_ending (refused numbers) q = ap (answer_line identifiers) q
 
--- a contradiction has a number
+-- the line of a contradiction does not tell the rounds
+pub contradiction_line : (identifiers : List ℕ) (contradiction : Contradiction) (rounds : ℕ)
+    → answer_line identifiers (answer_of (Err (Refused contradiction 0))) ≡ answer_line identifiers (answer_of (Err (Refused contradiction rounds)))
+contradiction_line identifiers (Region i) rounds = refl
+contradiction_line identifiers (Pair i j) rounds = refl
+contradiction_line identifiers (Triple i k j) rounds = refl
+
+-- and a contradiction has a number
 pub contradicted : (unrefined : Unrefined) → Contradicts unrefined → (answer_of (Err unrefined)).number ≡ 0 → ⊥
 contradicted (Refused (Region i) rounds) c e = omega arith
 contradicted (Refused (Pair i j) rounds) c e = omega arith
