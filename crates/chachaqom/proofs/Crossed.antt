@@ -5,8 +5,8 @@ use Prim.Native.Nat.{ℕ, zero, suc, ◌+◌, ◌*◌, ◌≤◌, ◌<◌}
 use native.Mathlib.Nat.{add-zero, mul-le-mul}
 use native.Mathlib.Numerals.{add-one, unary_clauses}
 use native.Mathlib.Omega.{arith}
-use lib.ListN.{length, get_or, take, length-append}
-use lib.Seq.{take_all, take-suc}
+use lib.ListN.{length, get_or, take, set, length-append}
+use lib.Seq.{take_all, take-suc, take-suc-set}
 use Rattle.std.specs.List.{flat_map}
 use Rattle.std.proofs.lemmas.List.{take-append-le}
 use Rattle.lists.proofs.Splits.{split_lt}
@@ -80,6 +80,12 @@ marks_flat [] = refl
 marks_flat (x ∷ rest) = ap (λ (l : List ℕ). two_bytes x ++ l) (marks_flat rest)
 
 -- ---- numbers that bytes hold
+
+-- one more
+pub one_held : (bytes identifiers : List ℕ) (place number : ℕ) → place < length identifiers → take place identifiers ≡ numbers_in place bytes
+    → number ≡ number_at bytes (4 * place) → take (place + 1) (set identifiers place number) ≡ numbers_in (place + 1) bytes
+unfolding numbers_in
+one_held bytes identifiers place number h e f = rw (add-one place, take-suc-set identifiers place number h, e, f)
 
 pub length_numbers : (n : ℕ) (bytes : List ℕ) → length (numbers_in n bytes) ≡ n
 unfolding numbers_in

@@ -1,5 +1,6 @@
 -- identifiers and marks as bytes
 pub mod Crossed
+pub mod Laying
 -- what the exports promise, by the ways they can go
 pub mod Promised
 pub mod Written

@@ -1,5 +1,5 @@
--- What the exports promise, by the ways they can go, where the check does not see it alone: of an area that is none, of areas of other
--- lengths, and of what the calls behind them left.
+-- What the exports promise, by the ways they can go: an answer area of another length, an area that is none, areas of other lengths, and
+-- what the calls behind them left.
 use mathlib.Core.Path.{◌≡◌, refl, sym, ap, ◌∙◌}
 use mathlib.Core.Bool.{true, false, cond}
 use mathlib.Core.List.{List, []}
@@ -9,18 +9,19 @@ use borrow.Author.Tests.{eq-eqb, ne_eqb, eqb-true}
 use lib.Dec.{eqb}
 use lib.ListN.{length, replicate}
 use Rattle.std.proofs.Common.{Result, Ok, Err}
-use Rattle.lists.specs.BigEndian.{numbers_bytes, two_bytes_each}
+use Rattle.lists.specs.BigEndian.{AllBytes, numbers_bytes, two_bytes_each}
 use Rattle.lists.proofs.Splits.{by_test}
 use Rattle.answer.specs.Answer.{Answer, answer}
 use Rattle.answer.specs.Ending.{refused, answered}
 use Rattle.answer.specs.Bytes.{Answers}
-use Rattle.answer.proofs.Exporting.{fit_leaves, same-answers}
+use Rattle.answer.proofs.Exporting.{unfit_answers, unfit_leaves, fit_leaves, same-answers}
 use Rattle.network.specs.declared.Area.{Area}
 use Rattle.network.specs.declared.Area.TheVariants.{First, Second}
 use Rattle.network.specs.Verdict.{Verdict, Start}
 use Rattle.network.specs.declared.Unrefined.{Unrefined}
 use Rattle.network.specs.declared.Unrefined.TheVariants.{OutOfRange}
 use Rattle.network.specs.Numbers.{area_numbered, answer_of as verdictAnswer, answer_of_start}
+use Rattle.network.specs.Refined.{Refined}
 use Rattle.network.specs.Prepared.{Prepared}
 use Rattle.network.specs.Ran.{left_by, starts_from, ran_from, Ran}
 use Rattle.filing.specs.Areas.{Areas, holding, Lent, are_lent, lent_identifiers, lent_cells}
@@ -33,12 +34,47 @@ use Rattle.scene.specs.Numbers.{number_of, answer_of as readingAnswer}
 use Rattle.scene.specs.Reading.{read_of, refused_at}
 use Rattle.scene.specs.Reads.{Reads, areas_after}
 use Rattle.scene.proofs.Endings.{wrong_areas}
+use Rattle.writer.specs.declared.Unwritten.{Unwritten}
+use Rattle.writer.specs.Numbers.{answer_of as writingAnswer}
+use Rattle.writer.specs.Writes.{Writes}
+use Rattle.chachaqom.specs.RefineExport.{RefineExport}
 use Rattle.chachaqom.specs.PrepareExport.{PrepareExport}
 use Rattle.chachaqom.specs.RunExport.{is_area, area_of, run_of, RunExport}
 use Rattle.chachaqom.specs.ReadExport.{lent_in, lent_bytes, ReadExport}
 use Rattle.chachaqom.specs.Inner.{HandedOver}
+use Rattle.chachaqom.specs.WriteExport.{identifiers_lent, WriteExport}
+
+-- ---- refining
+
+-- an answer area of another length
+pub refine_unfit : (n : ℕ) (cells first second answer : List ℕ) → (length answer ≡ 20 → ⊥)
+    → RefineExport n cells first second answer first second answer 2
+refine_unfit n cells first second answer h = record {
+  answers = unfit_answers _ answer h;
+  in_first = unfit_leaves answer _ first h;
+  in_second = unfit_leaves answer _ second h;
+}
+
+-- what the refinement left, and its verdict's numbers
+pub refine-answered : {n : ℕ} {cells first second answer first' second' answer' : List ℕ} {number : ℕ} {verdict : Verdict} {numbers : Answer}
+    → length answer ≡ 20 → Refined n cells first second first' second' verdict → numbers ≡ verdictAnswer verdict
+    → Answers numbers answer answer' number → RefineExport n cells first second answer first' second' answer' number
+refine-answered {first = first} {second = second} {answer = answer} h r e a = record {
+  answers = same-answers (e ∙ r.answer) a;
+  in_first = fit_leaves answer first h r.in_first;
+  in_second = fit_leaves answer second h r.in_second;
+}
 
 -- ---- preparing
+
+-- an answer area of another length
+pub prepare_unfit : (n : ℕ) (cells first second answer : List ℕ) → (length answer ≡ 20 → ⊥)
+    → PrepareExport n cells first second answer first second answer 2
+prepare_unfit n cells first second answer h = record {
+  answers = unfit_answers _ answer h;
+  in_first = unfit_leaves answer _ first h;
+  in_second = unfit_leaves answer _ second h;
+}
 
 -- what the preparation left, and its numbers
 pub prepare_answered : {n : ℕ} {cells first second answer first' second' answer' : List ℕ} {number : ℕ} {start : Start} {numbers : Answer}
@@ -51,6 +87,15 @@ prepare_answered {first = first} {second = second} {answer = answer} h p e a = r
 }
 
 -- ---- running
+
+-- an answer area of another length
+pub run_unfit : (n area most : ℕ) (first second answer : List ℕ) → (length answer ≡ 20 → ⊥)
+    → RunExport n area most first second answer first second answer 2
+run_unfit n area most first second answer h = record {
+  answers = unfit_answers _ answer h;
+  in_first = unfit_leaves answer _ first h;
+  in_second = unfit_leaves answer _ second h;
+}
 
 module _ (n area most : ℕ) (first second : List ℕ) where
   -- a number that is no area
@@ -112,6 +157,16 @@ run_answered {n} {area} {most} {from} {first} {second} {answer} h i f r e a =
     }
 
 -- ---- reading
+
+-- an answer area of another length
+pub read_unfit : (scene identifiers cells marks answer : List ℕ) → (length answer ≡ 20 → ⊥)
+    → ReadExport scene identifiers cells marks answer identifiers cells marks answer 2
+read_unfit scene identifiers cells marks answer h = record {
+  answers = unfit_answers _ answer h;
+  in_identifiers = unfit_leaves answer _ identifiers h;
+  in_cells = unfit_leaves answer _ cells h;
+  in_marks = unfit_leaves answer _ marks h;
+}
 
 -- identifiers or marks of another length lend too few
 no_identifiers : (identifiers cells marks : List ℕ) → (length identifiers ≡ 256 → ⊥) → Lent (lent_bytes identifiers cells marks) → ⊥
@@ -207,3 +262,25 @@ two_alone (Err TooLong) h = refl
 two_alone (Err (Refused refusal at)) h = not_two refusal
 
 -- ---- writing
+
+-- an answer area of another length
+pub write_unfit : (n : ℕ) (identifiers cells buffer answer : List ℕ) → AllBytes identifiers → AllBytes cells → (length answer ≡ 20 → ⊥)
+    → WriteExport n identifiers cells buffer answer buffer answer 2
+write_unfit n identifiers cells buffer answer b d h = record {
+  answers = unfit_answers _ answer h;
+  in_buffer = unfit_leaves answer _ buffer h;
+  identifiers-bytes = b;
+  cells-bytes = d;
+}
+
+-- what the writer left, and its answer's numbers
+pub write_answered : {n : ℕ} {identifiers cells buffer answer buffer' answer' : List ℕ} {number : ℕ} {writing : Result ℕ Unwritten} {numbers : Answer}
+    → AllBytes identifiers → AllBytes cells → length answer ≡ 20 → Writes n (identifiers_lent n identifiers) cells buffer buffer' writing
+    → numbers ≡ writingAnswer writing → Answers numbers answer answer' number
+    → WriteExport n identifiers cells buffer answer buffer' answer' number
+write_answered {buffer = buffer} {answer = answer} b d h w e a = record {
+  answers = same-answers (e ∙ w.answer) a;
+  in_buffer = fit_leaves answer buffer h w.buffer;
+  identifiers-bytes = b;
+  cells-bytes = d;
+}
