@@ -27,12 +27,12 @@ use Rattle.filing.specs.Stated.{stated_cell}
 use Rattle.filing.specs.Marks.{mark_of}
 use Rattle.filing.specs.Areas.{padded}
 use Rattle.filing.proofs.Padded.{padded-same}
-use Rattle.scene.specs.Reading.{accepted_said}
+use Rattle.scene.specs.Reading.{accepted_said, refused_at, read_scene}
 use Rattle.scene.specs.Reads.{starting_cell}
 use Rattle.text.specs.Put.{overwritten, Adds}
-use Rattle.report_text.specs.Report.{answer_line, refined_report, read_report, report_of, Reported}
+use Rattle.report_text.specs.Report.{refusal_line, answer_line, refined_report, read_report, report_of, Reported}
 use Rattle.report_text.proofs.Adding.{renamed}
-use Rattle.report_text.proofs.Short.{accepted_report_short}
+use Rattle.report_text.proofs.Short.{refusal-short, accepted_report_short}
 use Rattle.report_text.proofs.Verdicts.{HandedBack, handed-back, refused_report, contradiction_line, contradicted}
 use Rattle.report_text.proofs.Refinements.{answer-short, area, lent_range, small-sets}
 use Rattle.report_text.proofs.Readings.{AcceptedScene, same_report}
@@ -144,3 +144,9 @@ accepted_reported {scene} {identifiers} {cells} {marks} {n = n} a long r =
     rw (a.counted, a.cells_front, a.marks_front, a.identifiers_are)
     (sym (same_report n (padded 64 a.said.identifiers) a.said.identifiers stated marked (padded-same 64 a.said.identifiers) (refine n stated))) in
     reported long (ap read_report a.alone ∙ same) r
+
+pub refused_reported : {scene buffer buffer' : List ℕ} {count : ℕ} (number offset : ℕ) → read_scene scene ≡ refused_at number offset
+    → 131072 ≤ length buffer → Adds (refusal_line number offset 0 0) buffer 0 buffer' count → Reported scene buffer buffer' count
+unfolding report_of
+refused_reported number offset e long adds =
+    reported long (ap read_report e) (record { adds = adds; short = omega (arith, refusal-short number offset 0 0) })
