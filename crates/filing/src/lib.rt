@@ -41,7 +41,7 @@ pub fn begin(identifiers: &mut [u32], cells: &mut [u8], marks: &mut [u16], start
         ≡ started start.0 (holding identifiers.old cells.old marks.old) }
 {
     identifiers.fill(0);
-    cells.fill(start.0);
+    matrix::fill(cells, start.0);
     marks.fill(0);
 }
 

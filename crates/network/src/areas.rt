@@ -39,6 +39,6 @@ pub(crate) fn named<'a, T>(area: Area, first: &'a [T], second: &'a [T]) -> &'a [
 pub(crate) fn clear(first: &mut [u8], second: &mut [u8])
     ensures { Clears first.old second.old first.new second.new }
 {
-    first.fill(0);
-    second.fill(0);
+    matrix::fill(first, 0);
+    matrix::fill(second, 0);
 }
