@@ -24,6 +24,16 @@ pub(crate) enum Ended {
     },
 }
 
+// The planes of `new` into `old`. Word by word: `copy_from_slice` calls the C library's `memmove`, which the archive for C does not need.
+fn keep(new: &[u64], old: &mut [u64])
+    requires { length old.old ≡ length new.now }
+    ensures { old.new ≡ new.now }
+{
+    for (place, word) in old.iter_mut().enumerate() {
+        *word = new[place];
+    }
+}
+
 // Up to so many rounds, the confirming one included, from a matrix: `new` has the last one's planes, `old` those that it was made from.
 pub(crate) fn some_rounds(
     n: usize,
@@ -39,7 +49,7 @@ pub(crate) fn some_rounds(
     take(n, cells, new);
     let mut live = u64::MAX;
     for count in 0..most {
-        old.copy_from_slice(new);
+        keep(new, old);
         match round(n, live, old, new, onward) {
             Err(Emptied { row, column }) => {
                 return Ended::Empty {

@@ -23,7 +23,7 @@ unfolding tabled
 bytes_list n = let first : n ≡ n / 1 = omega arith in cc
 
 -- byte g of the number that eight bytes make
-byte_of : (b : List ℕ) (n g : ℕ) → length b ≡ 8 → ((i : ℕ) → get_or b i 0 < 256) → n ≡ from_le_bytes w64 b → g < 8
+pub byte_of : (b : List ℕ) (n g : ℕ) → length b ≡ 8 → ((i : ℕ) → get_or b i 0 < 256) → n ≡ from_le_bytes w64 b → g < 8
     → n / 2 ^ (8 * g) % 256 ≡ get_or b g 0
 byte_of b n g long small e h =
     sym (list_at 8 (λ r. n / 2 ^ (8 * r) % 256) g h)

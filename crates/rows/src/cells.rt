@@ -1,5 +1,5 @@
 // The cells of a row into words and back, eight at a time.
-ghost use Rattle.std.specs.Prelude.{◌≡◌, ◌+◌, ◌*◌, ◌/◌, ◌%◌, ◌^◌, ◌<◌, ◌≤◌, length, get_or};
+ghost use Rattle.std.specs.Prelude.{◌≡◌, ◌+◌, ◌*◌, ◌/◌, ◌%◌, ◌^◌, ◌<◌, ◌≤◌, length, take, get_or};
 ghost use Rattle.std.specs.Int.Bits.{bit_or};
 ghost use Rattle.lanes.specs.Lists.{list_of};
 ghost use Rattle.rows.specs.Rows.{row_words, row_cells, row_after};
@@ -49,6 +49,18 @@ fn eight_lanes(w: [u64; 8], at: usize) -> [u8; 8]
     w.map(|word| (word >> at & 0xff) as u8)
 }
 
+// As many of the bytes as there are cells. Out of one word: copying as many as are left calls the C library's `memcpy`, which the archive
+// for C does not need.
+fn give_rest(bytes: [u8; 8], cells: &mut [u8])
+    requires { length cells.old ≤ 8 }
+    ensures { cells.new ≡ take (length cells.old) bytes }
+{
+    let word = u64::from_le_bytes(bytes);
+    for (place, cell) in cells.iter_mut().enumerate() {
+        *cell = (word >> (8 * place) & 0xff) as u8;
+    }
+}
+
 // The first lanes as cells, as many as there are cells.
 fn give_lanes(w: [u64; 8], cells: &mut [u8])
     requires { length cells.old ≤ 64 }
@@ -61,8 +73,7 @@ fn give_lanes(w: [u64; 8], cells: &mut [u8])
     }
     let at = cells.len() / 8 * 8;
     if at < cells.len() {
-        let left = cells.len() - at;
-        cells[at..].copy_from_slice(&turned(eight_lanes(w, at))[..left]);
+        give_rest(turned(eight_lanes(w, at)), &mut cells[at..]);
     }
 }
 

@@ -14,17 +14,17 @@ loop-count-init c =
 pub returns-in-Err : goal.returns-in-Err
 unfolding Ends
 returns-in-Err c =
-    let at = c.loop-count.invariant in loop_empties at.0 (omega arith) c.copy_from_slice.ensures.after at.1 c.in-Err.ensures
+    let at = c.loop-count.invariant in loop_empties at.0 (omega arith) c.keep.ensures at.1 c.in-Err.ensures
 
 pub returns-in-Ok-eq0 : goal.returns-in-Ok-eq0
 unfolding Ends
 returns-in-Ok-eq0 c =
-    let at = c.loop-count.invariant in loop_rests at.0 (omega arith) c.copy_from_slice.ensures.after at.1 c.in-Ok-eq0.ensures c.in-Ok-eq0.field-0-test
+    let at = c.loop-count.invariant in loop_rests at.0 (omega arith) c.keep.ensures at.1 c.in-Ok-eq0.ensures c.in-Ok-eq0.field-0-test
 
 pub loop-count-preserved : goal.loop-count-preserved
 loop-count-preserved c =
     let at = c.loop-count.invariant in (
-      loop_goes_on at.0 (omega arith) c.copy_from_slice.ensures.after at.1 c.in-Ok.ensures c.in-Ok.changed-test.1,
+      loop_goes_on at.0 (omega arith) c.keep.ensures at.1 c.in-Ok.ensures c.in-Ok.changed-test.1,
       search rules,
     )
 

@@ -1,5 +1,6 @@
 -- `rows::cells::give_lanes` meets its contract. The loop's invariant: the cells of the blocks so far are made.
 use Rattle.std.proofs.Common.{◌≡◌, ◌*◌, ◌-◌, ◌/◌, ◌∙◌, ap, sym, subst, arith, length, take, rules}
+use borrow.Rule.Slice.PartMut.{mid_len}
 use Rattle.std.proofs.lemmas.List.{take_all}
 use Rattle.lanes.proofs.Lists.{none-stored, all_stored}
 use Rattle.lanes.specs.Lists.{list_of}
@@ -27,7 +28,8 @@ returns-then-at-cells c =
     subst (λ k. take k cells ≡ list_of k (set_at c.args.w)) done c.loop-block.invariant in
     all_stored _ _ _ (length cells) (search rules) (search rules)
     (block_given _ cells _ c.turned-then-at-cells.result _ at _ (length cells - at) (omega arith) (omega arith) given
-    c.copy_from_slice-then-at-cells.ensures.after (c.turned-then-at-cells.ensures ∙ ap turned_of c.eight_lanes-then-at-cells.ensures))
+    (c.give_rest.ensures ∙ ap (λ k. take k c.turned-then-at-cells.result) (mid_len at (length cells) cells (search rules)))
+    (c.turned-then-at-cells.ensures ∙ ap turned_of c.eight_lanes-then-at-cells.ensures))
 
 pub returns-else-at-cells : goal.returns-else-at-cells
 unfolding row_cells
