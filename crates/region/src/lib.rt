@@ -18,9 +18,9 @@ pub struct Place(pub usize);
 pub fn lookup(identifiers: &[u32], count: usize, wanted: Identifier) -> Option<Place>
     ensures { result ≡ lookup_of identifiers.now count wanted }
 {
-    identifiers
+    // A part of them, so that there is one bound: where that is a constant, several entries are compared at once.
+    identifiers[..count.min(identifiers.len())]
         .iter()
-        .take(count)
         .position(|entry| *entry == wanted.0)
         .map(Place)
 }

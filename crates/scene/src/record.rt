@@ -1,5 +1,5 @@
 // One record of a scene, judged against what was said before it.
-ghost use Rattle.std.specs.Prelude.{◌≡◌, ◌<◌, length, ok_or};
+ghost use Rattle.std.specs.Prelude.{◌≡◌, ◌<◌, ◌≤◌, length, ok_or};
 ghost use Rattle.lists.specs.BigEndian.{number_at};
 ghost use Rattle.region.specs.Lookup.{identifier};
 ghost use Rattle.filing.specs.Said.{naming};
@@ -45,6 +45,7 @@ struct Begun<'a> {
     declared: &'a [u32],
     at: usize,
     ghost within: { at < length scene.now },
+    ghost few: { length declared.now ≤ 64 },
 }
 
 impl Begun<'_> {
@@ -58,13 +59,20 @@ impl Begun<'_> {
         }
     }
 
+    // The place that an identifier names. Among the most that there may be: with a constant for a bound several are compared at once.
+    fn place_named(&self, identifier: Identifier) -> Option<Place>
+        ensures { result ≡ place_of (naming self.now.declared.now) identifier }
+    {
+        place_of(self.declared, MOST_REGIONS, identifier)
+    }
+
     // The place that the identifier at an offset names.
     fn place_at(&self, offset: usize) -> Result<Place, Refused>
         ensures { result ≡ ok_or (place_of (naming self.now.declared.now) (identifier (number_at self.now.scene.now offset)))
             (record { refusal = Refusal.NotDeclared; offset = self.now.at }) }
     {
         let identifier = Identifier(number_at(self.scene, offset));
-        let found = place_of(self.declared, self.declared.len(), identifier);
+        let found = self.place_named(identifier);
         found.ok_or(self.refused(Refusal::NotDeclared))
     }
 
@@ -80,7 +88,7 @@ impl Begun<'_> {
         if identifier.0 == 0 {
             return Err(self.refused(Refusal::IdentifierZero));
         }
-        if place_of(self.declared, self.declared.len(), identifier).is_some() {
+        if self.place_named(identifier).is_some() {
             return Err(self.refused(Refusal::DeclaredTwice));
         }
         if MOST_REGIONS <= self.declared.len() {
@@ -127,6 +135,7 @@ impl Begun<'_> {
 // The record at an offset: the end of the bytes, then the kind, then what the kind asks.
 #[tactic(auto, unfolding(crate::specs::Record::record_at))]
 pub(crate) fn record_at(scene: &[u8], declared: &[u32], at: usize) -> Result<Record, Refused>
+    requires { length declared.now ≤ 64 }
     ensures { judged_of result ≡ record_at scene.now (naming declared.now) at }
 {
     let Some(byte) = scene.get(at) else {
