@@ -12,7 +12,7 @@ use Rattle.std.proofs.lemmas.List.{take-append-le}
 use Rattle.lists.proofs.Splits.{split_lt}
 use Rattle.std.proofs.lemmas.Grind.{flat_map-append}
 use Rattle.lanes.specs.Lists.{list_of}
-use Rattle.lanes.proofs.Lists.{list_split}
+use Rattle.lanes.proofs.Lists.{list_at, list_split}
 use Rattle.lists.specs.Tabled.{tabled}
 use Rattle.lists.specs.BigEndian.{big_endian, number_at, bytes_put, numbers_bytes, numbers_in, two_bytes, two_bytes_each}
 use Rattle.lists.proofs.BigEndianLaws.{bytes_behind}
@@ -113,3 +113,7 @@ numbers_listed (suc n) bytes =
     let f : ℕ → ℕ = λ k. number_at bytes (4 * k) in
     let more : list_of (suc n) f ≡ list_of n f ++ list_of 1 (λ k. f (n + k)) = rw add-one at (list_split n 1 f) in
     ap₂ (λ (l : List ℕ) (x : ℕ). l ++ (x ∷ [])) (numbers_listed n bytes) (ap f (sym (add-zero n))) ∙ sym more
+
+-- the number at a place of theirs
+pub number_in : (n : ℕ) (bytes : List ℕ) (k : ℕ) → k < n → get_or (numbers_in n bytes) k 0 ≡ number_at bytes (4 * k)
+number_in n bytes k h = ap (λ (l : List ℕ). get_or l k 0) (numbers_listed n bytes) ∙ list_at n (λ p. number_at bytes (4 * p)) k h
