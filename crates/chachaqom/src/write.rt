@@ -7,8 +7,8 @@ ghost use Rattle.chachaqom.specs.WriteExport.{identifiers_lent, WriteExport};
 use writer::Unwritten;
 use writer::numbers::of_writing;
 
-// As many identifiers as there is room for, four bytes each; past the last byte they are 0. Lent: to make all 64 takes a call with few regions
-// up to six times as long, and to hand back an array calls the C library's `memcpy`, which the archive for C does not need.
+// As many identifiers as there is room for, four bytes each; past the last byte they are 0. Lent: to make all 64 takes a call with few
+// regions up to six times as long, and to hand back an array calls the C library's `memcpy`, which the archive for C does not need.
 fn identifiers_in(bytes: &[u8], identifiers: &mut [u32])
     requires { length identifiers.old ≤ 64 }
     ensures { identifiers.new ≡ numbers_in (length identifiers.old) bytes.now }

@@ -18,8 +18,8 @@ pub(crate) struct NamedMatrix<'a> {
     ghost sized: { Sized n identifiers.now cells.now },
 }
 
-// How many cells are to be stated: those that are not 255. By `filter` and `count`, which branch at each, a write of 64 regions took 1.3 times
-// as long.
+// How many cells are to be stated: those that are not 255. By `filter` and `count`, which branch at each, a write of 64 regions took 1.3
+// times as long.
 fn stated_count(cells: &[u8]) -> usize
     ensures { result ≡ stated_count (length cells.now) cells.now }
 {
