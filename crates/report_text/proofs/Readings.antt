@@ -141,7 +141,7 @@ refused_reported number offset e begun adds =
     reported begun (ap read_report e) (record { adds = adds; short = omega (arith, refusal-short number offset 0 0) })
 
 -- the areas have the right lengths
-never_wrong : {scene identifiers cells marks : List ℕ} → Reads scene blank (holding identifiers cells marks) (Err WrongLength) → ⊥
+pub never_wrong : {scene identifiers cells marks : List ℕ} → Reads scene blank (holding identifiers cells marks) (Err WrongLength) → ⊥
 never_wrong {scene} r = right_lengths scene blank_lent (wrong_length_leaves r).ending
 
 -- the line of a refusal's numbers
